@@ -1,0 +1,37 @@
+// The error list of a check: words in a lent slice, and a count.
+ghost use mathlib.Core.Path.{_≡_};
+ghost use Rattle.fallible.specs.Errors.{errorList, pushed};
+
+// The words of an error in the list.
+const ERROR_WIDTH: usize = 7;
+
+// An error: its kind, where it stands, and what its message names; operands that a kind does not use are 0.
+pub struct Error {
+    pub kind: u32,
+    pub file: u32,
+    pub line: u32,
+    pub column: u32,
+    pub first: u32,
+    pub second: u32,
+    pub third: u32,
+}
+
+// Adds an error to the `count` there are, and returns the new count. An error that finds no room is only counted, and the
+// count stays one past the room.
+pub fn push_error(errors: &mut [u32], count: usize, error: Error) -> usize
+    ensures { λ r. ⌜ errorList (now (errors .exit)) r ≡ pushed (errorList (now (errors .entry)) count) error ⌝ }
+{
+    let room = errors.len() / ERROR_WIDTH;
+    if room <= count {
+        return room + 1;
+    }
+    let at = ERROR_WIDTH * count;
+    errors[at] = error.kind;
+    errors[at + 1] = error.file;
+    errors[at + 2] = error.line;
+    errors[at + 3] = error.column;
+    errors[at + 4] = error.first;
+    errors[at + 5] = error.second;
+    errors[at + 6] = error.third;
+    count + 1
+}
