@@ -1,0 +1,135 @@
+-- A row stored behind the rows of a table.
+use Prim.Native.Nat.{ℕ, _+_, _-_, _*_, _^_, _≤_, _<_}
+use mathlib.Core.Path.{_≡_, refl, sym, ap, _∙_, subst}
+use mathlib.Core.List.{List}
+use mathlib.Core.Bool.{Bool, true, false, cond}
+use mathlib.Core.Logic.{_⊎_, inl, inr, ⊎-elim}
+use native.Mathlib.Omega.{arith}
+use borrow.Author.Tests.{eqb-false}
+use lib.Dec.{eqb, ltb}
+use lib.ListN.{length, getD, set, length-set}
+use lib.Seq.{getD-set-same, getD-set-other}
+use Rattle.types.specs.Table.{Words, words, rowAt, build, unfolded, hasType, Table, RowOk, Extends}
+use Rattle.types.specs.Post.{Added, Found, highestPart, stored}
+use Rattle.types.proofs.Laws.{unfolded-row, build-below, words-injective, first-at-most, second-at-most, first-lower, second-lower}
+use Rattle.types.proofs.Grow.{Kept, kept-row, kept-unfolded, kept-ok}
+use Rattle.types.proofs.Validate.{Rows, rows-add}
+use Rattle.types.proofs.Set.{has-none, added-last}
+
+-- A row that is none of a table's rows is none of its types
+pub new-type : (w : List ℕ) (c : ℕ) (r : Words) → Table w c → RowOk w c r → ((i : ℕ) → 1 ≤ i → i ≤ c → rowAt w i ≡ r → ⊥) → hasType w c (build r (unfolded w)) ≡ false
+new-type w c r t ok none = has-none w c (build r (unfolded w)) (λ n l h e. none n l h (words-injective w c t n l h r ok e))
+
+module _ (w : List ℕ) (c : ℕ) (r : Words) where
+  stored-other : (i : ℕ) → (i < 4 * c) ⊎ (4 * c + 4 ≤ i) → getD (stored w c r) i 0 ≡ getD w i 0
+  stored-other i h =
+      let n0 : i ≡ 4 * c → ⊥ = λ e. apart 0 (omega arith) (omega arith) in
+      let n1 = apart 1 (omega arith) in
+      let n2 = apart 2 (omega arith) in
+      let n3 = apart 3 (omega arith) in
+      simp (getD-set-other, n0, n1, n2, n3)
+    where
+      apart : (k : ℕ) → k < 4 → i ≡ 4 * c + k → ⊥
+      apart k l e = ⊎-elim (λ (b : i < 4 * c). omega arith) (λ (b : 4 * c + 4 ≤ i). omega arith) h
+
+  module _ (room : 4 * c + 4 ≤ length w) where
+    pub stored-row : rowAt (stored w c r) (c + 1) ≡ r
+    stored-row =
+        let e : 4 * (c + 1) - 4 ≡ 4 * c = omega arith in
+        let at : ℕ → ℕ → ℕ = λ b k. getD (stored w c r) (b + k) 0 in
+        ap (λ (b : ℕ). words (getD (stored w c r) b 0) (at b 1) (at b 2) (at b 3)) e ∙ (λ i. record { kind = kind i; first = first i; second = second i; name = name i })
+      where
+        kind : getD (stored w c r) (4 * c) 0 ≡ r .kind
+        kind =
+            let n1 : 4 * c ≡ 4 * c + 1 → ⊥ = omega arith in
+            let n2 : 4 * c ≡ 4 * c + 2 → ⊥ = omega arith in
+            let n3 : 4 * c ≡ 4 * c + 3 → ⊥ = omega arith in
+            let l : 4 * c < length w = omega arith in
+            simp (getD-set-other, getD-set-same, n1, n2, n3, l)
+
+        first : getD (stored w c r) (4 * c + 1) 0 ≡ r .first
+        first =
+            let n2 : 4 * c + 1 ≡ 4 * c + 2 → ⊥ = omega arith in
+            let n3 : 4 * c + 1 ≡ 4 * c + 3 → ⊥ = omega arith in
+            let l : 4 * c + 1 < length (set w (4 * c) (r .kind)) = simp length-set (omega arith) in
+            simp (getD-set-other, getD-set-same, n2, n3, l)
+
+        second : getD (stored w c r) (4 * c + 2) 0 ≡ r .second
+        second =
+            let n3 : 4 * c + 2 ≡ 4 * c + 3 → ⊥ = omega arith in
+            let l : 4 * c + 2 < length (set (set w (4 * c) (r .kind)) (4 * c + 1) (r .first)) = simp length-set (omega arith) in
+            simp (getD-set-other, getD-set-same, n3, l)
+
+        name : getD (stored w c r) (4 * c + 3) 0 ≡ r .name
+        name =
+            let l : 4 * c + 3 < length (set (set (set w (4 * c) (r .kind)) (4 * c + 1) (r .first)) (4 * c + 2) (r .second)) = simp length-set (omega arith) in
+            simp (getD-set-same, l)
+
+    module _ (t : Table w c) (ok : RowOk w c r) where
+      kept : Kept w (stored w c r) c
+      kept i h = stored-other i (inl h)
+
+      extends : Extends w c (stored w c r) (c + 1)
+      extends = record { more = omega arith; long = simp length-set; kept = kept; past = λ i h. stored-other i (inr (omega arith)) }
+
+      module _ (small : c + 1 < 2 ^ 32) (none : (i : ℕ) → 1 ≤ i → i ≤ c → rowAt w i ≡ r → ⊥) where
+        all : Rows (stored w c r) (c + 1)
+        all =
+            rows-add (stored w c r) c
+            (record {
+              rows = λ m h.
+                  subst (RowOk (stored w c r) m) (sym (kept-row w (stored w c r) c kept (m + 1) (omega arith) (omega arith)))
+                  (kept-ok w (stored w c r) c kept m (omega arith) (rowAt w (m + 1)) (t .rows m h));
+              distinct = λ i j li hi lj hj e.
+                  t .distinct i j li hi lj hj (sym (kept-row w (stored w c r) c kept i li hi) ∙ e ∙ kept-row w (stored w c r) c kept j lj hj);
+            })
+            (subst (RowOk (stored w c r) c) (sym stored-row) (kept-ok w (stored w c r) c kept c (omega arith) r ok))
+            (λ i l h e. none i l h (sym (kept-row w (stored w c r) c kept i l h) ∙ e ∙ stored-row))
+
+        table : Table (stored w c r) (c + 1)
+        table =
+            let s = t .seven in
+            record {
+              room = simp length-set (omega arith);
+              small = small;
+              seven = omega arith;
+              fixed = λ i h. kept i (omega arith) ∙ t .fixed i h;
+              rows = all .rows;
+              distinct = all .distinct;
+            }
+
+        pub added-stored : Added w c (build r (unfolded w)) (stored w c r) (c + 1) (c + 1)
+        added-stored =
+            added-last w (stored w c r) c (build r (unfolded w)) table extends
+            (unfolded-row (stored w c r) (c + 1) table (c + 1) (omega arith) (omega arith)
+            ∙ ap (λ (x : Words). build x (unfolded (stored w c r))) stored-row
+            ∙ build-below w c r ok (unfolded (stored w c r)) (unfolded w) (kept-unfolded w (stored w c r) c kept))
+            (new-type w c r t ok none)
+
+-- A row stands behind its parts
+highest : (r : Words) → (highestPart r ≡ r .first) ⊎ ((highestPart r ≡ r .second) × (r .kind ≡ 7 → ⊥))
+highest r = go (eqb (r .kind) 7) refl (ltb (r .first) (r .second))
+  where
+    go : (a : Bool) → eqb (r .kind) 7 ≡ a → (b : Bool)
+        → (cond a (r .first) (cond b (r .second) (r .first)) ≡ r .first) ⊎ ((cond a (r .first) (cond b (r .second) (r .first)) ≡ r .second) × (r .kind ≡ 7 → ⊥))
+    go true e b = inl refl
+    go false e true = inr (refl, eqb-false (r .kind) 7 e)
+    go false e false = inl refl
+
+pub highest-low : (w : List ℕ) (c : ℕ) (r : Words) → RowOk w c r → highestPart r ≤ c
+highest-low w c r ok =
+    ⊎-elim
+    (λ (e : highestPart r ≡ r .first). subst (λ (x : ℕ). x ≤ c) (sym e) (first-at-most w c r ok))
+    (λ (e : (highestPart r ≡ r .second) × (r .kind ≡ 7 → ⊥)). subst (λ (x : ℕ). x ≤ c) (sym (e .0)) (second-at-most w c r ok (e .1)))
+    (highest r)
+
+highest-lower : (w : List ℕ) (c : ℕ) → Table w c → (i : ℕ) → 1 ≤ i → i ≤ c → highestPart (rowAt w i) < i
+highest-lower w c t i l h =
+    ⊎-elim
+    (λ (e : highestPart (rowAt w i) ≡ rowAt w i .first). subst (λ (x : ℕ). x < i) (sym e) (first-lower w c t i l h))
+    (λ (e : (highestPart (rowAt w i) ≡ rowAt w i .second) × (rowAt w i .kind ≡ 7 → ⊥)). subst (λ (x : ℕ). x < i) (sym (e .0)) (second-lower w c t i l h (e .1)))
+    (highest (rowAt w i))
+
+-- So a search past them finds every row of these words
+pub none-like : (w : List ℕ) (c : ℕ) → Table w c → (r : Words) (n : ℕ) → Found w (highestPart r) c r n → n ≡ 0 → (i : ℕ) → 1 ≤ i → i ≤ c → rowAt w i ≡ r → ⊥
+none-like w c t r n f z i l h q = f .absent z i (subst (λ (x : Words). highestPart x < i) q (highest-lower w c t i l h)) h q

@@ -1,0 +1,12 @@
+pub mod Laws
+pub mod Grow
+pub mod Query
+pub mod Lists
+pub mod Decide
+pub mod Validate
+pub mod Fixed
+pub mod Set
+pub mod Append
+pub mod Requests
+pub mod Count
+pub mod Parts

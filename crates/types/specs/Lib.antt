@@ -1,0 +1,3 @@
+pub mod Ty
+pub mod Table
+pub mod Post
