@@ -1,0 +1,171 @@
+//! Buffers that a checker filled, as an answer; and tables of rows, good and damaged.
+
+use crate::{
+    answer::{Answer, Error, Operand},
+    layout::{self, Place, Record},
+    rows::{Row, Rows, STRING_NAME, kind},
+    tree::Random,
+};
+
+/// The little-endian words of a file.
+pub fn words(bytes: &[u8]) -> Result<Vec<u32>, String> {
+    if !bytes.len().is_multiple_of(4) {
+        return Err("not a whole number of words".to_owned());
+    }
+    Ok(bytes.chunks(4).map(|word| u32::from_le_bytes(word.try_into().unwrap())).collect())
+}
+
+/// The rows of a table, if it keeps every rule for rows that test 8 covers.
+pub fn rows(words: &[u32]) -> Option<Rows> {
+    let fixed = Rows::new();
+    let mut rows = Rows::new();
+    if !words.len().is_multiple_of(4) || words.len() < 4 * fixed.count() {
+        return None;
+    }
+    for (i, words) in words.chunks(4).enumerate() {
+        let number = i as u32 + 1;
+        let row = Row { kind: words[0], first: words[1], second: words[2], name: words[3] };
+        if i < fixed.count() {
+            if row != fixed.row(number) {
+                return None;
+            }
+        } else if !is_sound(&rows, row) || rows.put(row.kind, row.first, row.second, row.name) != number {
+            return None;
+        }
+    }
+    Some(rows)
+}
+
+/// Whether a row may follow those there: parts of the right sort, unused words 0, the name of row 7 not used.
+fn is_sound(rows: &Rows, row: Row) -> bool {
+    let there = |number: u32| 1 <= number && number as usize <= rows.count();
+    let ty = |number: u32| there(number) && !rows.row(number).is_cell();
+    let cells = |number: u32, kind: u32| number == 0 || there(number) && rows.row(number).kind == kind;
+    match row.kind {
+        kind::POINTER => ty(row.first) && row.second == 0 && row.name == 0,
+        kind::ARRAY => ty(row.first) && row.name == 0,
+        kind::STRUCT => cells(row.first, kind::FIELD) && row.second == 0 && row.name == 0,
+        kind::FUNCTION | kind::ARGUMENT => ty(row.first) && cells(row.second, kind::ARGUMENT) && row.name == 0,
+        kind::ALIAS | kind::DISTINCT => ty(row.first) && row.second == 0 && row.name != STRING_NAME,
+        kind::FIELD => ty(row.first) && cells(row.second, kind::FIELD) && row.name != STRING_NAME,
+        _ => false,
+    }
+}
+
+/// Which operands of an error of the kind are rows.
+fn row_operands(kind: u32) -> [bool; 3] {
+    match kind {
+        3 => [false, true, false],
+        8 | 15 => [true, true, false],
+        9 | 13 | 14 | 16..=22 | 26 | 28 => [true, false, false],
+        12 | 24 => [false, true, true],
+        _ => [false; 3],
+    }
+}
+
+/// What a checker said that was given `input` and left `output`, row words and error words in use.
+pub fn answer(input: &[u8], output: &[u8], row_words: &[u32], error_words: &[u32]) -> Result<Answer, String> {
+    let module = layout::read(input).map_err(|refusal| format!("the input is turned back: {refusal:?}"))?;
+    let rows = rows(row_words).ok_or("the rows break a rule")?;
+    let ty = |number: u32| match number {
+        n if n == 0 || n as usize > rows.count() || rows.row(n).is_cell() => Err(format!("no type row: {n}")),
+        n => Ok(n),
+    };
+    let mut places = vec![];
+    module.items.iter().for_each(|item| slots(item, &mut places));
+    if output.len() < input.len() {
+        return Err("the output is shorter than the input".to_owned());
+    }
+    let mut cleared = output[..input.len()].to_vec();
+    let mut filled = vec![];
+    for place in places {
+        let word = &mut cleared[place..place + 4];
+        filled.push((place, ty(u32::from_le_bytes((&*word).try_into().unwrap()))?));
+        word.fill(0);
+    }
+    if let Some(place) = cleared.iter().zip(input).position(|(a, b)| a != b) {
+        return Err(format!("the output differs outside the slots, at {place}"));
+    }
+    if !error_words.len().is_multiple_of(7) {
+        return Err("not a whole number of errors".to_owned());
+    }
+    let mut errors = vec![];
+    for words in error_words.chunks(7) {
+        let at = Place { file: u16::try_from(words[1]).map_err(|e| e.to_string())?, line: words[2], column: words[3] };
+        let mut operands = [Operand::Number(0); 3];
+        for (i, is_row) in row_operands(words[0]).into_iter().enumerate() {
+            let word = words[4 + i];
+            operands[i] = if is_row { Operand::Row(ty(word)?) } else { Operand::Number(word) };
+        }
+        errors.push(Error { kind: words[0], at, operands });
+    }
+    Ok(Answer { rows, slots: filled, errors })
+}
+
+/// The places of the slots in a record.
+fn slots(record: &Record, into: &mut Vec<usize>) {
+    if matches!(record.kind, 16..=20 | 32..=47) {
+        into.push(record.slot());
+    }
+    record.children.iter().for_each(|child| slots(child, into));
+}
+
+/// A table of rows from a seed, sometimes with a broken rule, as bytes.
+pub fn table(seed: u64) -> Vec<u8> {
+    let mut random = Random::new(seed);
+    let mut rows = Rows::new();
+    for _ in 0..random.below(50) {
+        add_row(&mut random, &mut rows);
+    }
+    let mut words: Vec<u32> = vec![];
+    for number in 1..=rows.count() as u32 {
+        let row = rows.row(number);
+        words.extend([row.kind, row.first, row.second, row.name]);
+    }
+    if random.chance(40) {
+        match random.below(4) {
+            0 => {
+                let length = random.below(words.len());
+                words.truncate(length);
+            }
+            1 => {
+                let row = random.below(rows.count()) * 4;
+                words.extend_from_within(row..row + 4);
+            }
+            2 => {
+                let place = random.below(words.len());
+                words[place] =
+                    *random.pick(&[0, 1, words[place].wrapping_add(1), words[place].wrapping_sub(1), 65_535, u32::MAX]);
+            }
+            _ => {
+                let last = words.len() / 4 - 1;
+                let (a, b) = (random.between(5, last), random.between(5, last));
+                (0..4).for_each(|i| words.swap(4 * a + i, 4 * b + i));
+            }
+        }
+    }
+    words.iter().flat_map(|word| word.to_le_bytes()).collect()
+}
+
+fn add_row(random: &mut Random, rows: &mut Rows) {
+    let of = |wanted: fn(Row) -> bool| -> Vec<u32> {
+        (1..=rows.count() as u32).filter(|&number| wanted(rows.row(number))).collect()
+    };
+    let types = of(|row| !row.is_cell());
+    let fields = [vec![0], of(|row| row.kind == kind::FIELD)].concat();
+    let arguments = [vec![0], of(|row| row.kind == kind::ARGUMENT)].concat();
+    let recent = types.len().saturating_sub(4);
+    let ty = if random.chance(60) { *random.pick(&types[recent..]) } else { *random.pick(&types) };
+    let name = random.below(5) as u32;
+    let size = *random.pick(&[0, 1, 2, 3, 4, 16, 255, 256, 257, 65_535, 65_536, u32::MAX]);
+    match random.below(12) {
+        0 | 1 => rows.pointer(ty),
+        2 | 3 => rows.array(ty, size),
+        4 => rows.put(kind::STRUCT, *random.pick(&fields), 0, 0),
+        5 => rows.put(kind::FUNCTION, ty, *random.pick(&arguments), 0),
+        6 | 7 => rows.alias(ty, name, false),
+        8 | 9 => rows.alias(ty, name, true),
+        10 => rows.put(kind::FIELD, ty, *random.pick(&fields), name),
+        _ => rows.put(kind::ARGUMENT, ty, *random.pick(&arguments), 0),
+    };
+}

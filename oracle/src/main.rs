@@ -1,0 +1,263 @@
+//! The oracle's commands; README.md describes them.
+
+use std::{
+    collections::BTreeMap,
+    env, fs,
+    path::{Path, PathBuf},
+    process::ExitCode,
+    time::Duration,
+};
+
+use oracle::{
+    answer::{Answer, refusal_text},
+    buffers, damage, generate,
+    layout::{self, Module},
+    model,
+    reference::{self, MOST_WORK, Silence},
+    relate, shuffle,
+    stats::Stats,
+};
+
+const USAGE: &str = "usage:
+  oracle check [--reference | --model] FILES..
+  oracle report FILES..
+  oracle selfcheck FILES..
+  oracle generate SEED COUNT DIR [--class NAME]
+  oracle damage SEED COUNT DIR FILES..
+  oracle shuffle SEED FILE OUT
+  oracle stats FILES..
+  oracle render INPUT OUTPUT ROWS ERRORS
+  oracle tables SEED COUNT DIR
+  oracle relate ROWS..
+A folder among FILES stands for the files in it.";
+
+/// How long the reference may think about one module.
+const LIMIT: Duration = Duration::from_secs(20);
+
+/// What the report program lends.
+const LENT_ROWS: usize = 3_000;
+const LENT_ERRORS: usize = 2_000;
+
+type Done = Result<ExitCode, String>;
+
+fn main() -> ExitCode {
+    let arguments: Vec<String> = env::args().skip(1).collect();
+    let words: Vec<&str> = arguments.iter().map(String::as_str).collect();
+    let done = match words[..] {
+        ["check", "--reference", ref files @ ..] if !files.is_empty() => check(files, Source::Reference),
+        ["check", "--model", ref files @ ..] if !files.is_empty() => check(files, Source::Model),
+        ["check", ref files @ ..] if !files.is_empty() => check(files, Source::Either),
+        ["report", ref files @ ..] if !files.is_empty() => report(files),
+        ["selfcheck", ref files @ ..] if !files.is_empty() => selfcheck(files),
+        ["generate", seed, count, folder] => generated(seed, count, folder, "mixed"),
+        ["generate", seed, count, folder, "--class", class] => generated(seed, count, folder, class),
+        ["damage", seed, count, folder, ref files @ ..] if !files.is_empty() => damaged(seed, count, folder, files),
+        ["shuffle", seed, file, out] => shuffled(seed, file, out),
+        ["stats", ref files @ ..] if !files.is_empty() => stats(files),
+        ["render", input, output, rows, errors] => render(input, output, rows, errors),
+        ["tables", seed, count, folder] => tables(seed, count, folder),
+        ["relate", ref files @ ..] if !files.is_empty() => related(files),
+        _ => Err(USAGE.to_owned()),
+    };
+    done.unwrap_or_else(|message| {
+        eprintln!("{message}");
+        ExitCode::from(2)
+    })
+}
+
+fn read(path: impl AsRef<Path>) -> Result<Vec<u8>, String> {
+    fs::read(&path).map_err(|e| format!("{}: {e}", path.as_ref().display()))
+}
+
+fn write(path: impl AsRef<Path>, bytes: &[u8]) -> Result<(), String> {
+    fs::write(&path, bytes).map_err(|e| format!("{}: {e}", path.as_ref().display()))
+}
+
+fn number(text: &str) -> Result<u64, String> {
+    text.parse().map_err(|_| format!("not a number: {text}"))
+}
+
+/// The files named, those of a folder in the order of their names.
+fn expand(files: &[&str]) -> Result<Vec<PathBuf>, String> {
+    let mut all = vec![];
+    for file in files {
+        let path = PathBuf::from(file);
+        if path.is_dir() {
+            let entries = fs::read_dir(&path).map_err(|e| format!("{file}: {e}"))?;
+            let mut inside: Vec<PathBuf> = entries.flatten().map(|entry| entry.path()).collect();
+            inside.sort();
+            all.extend(inside);
+        } else {
+            all.push(path);
+        }
+    }
+    Ok(all)
+}
+
+/// The reference's answer, unless the model foresees that it would take too long.
+fn reference_answer(module: &Module, work: u64) -> Result<Answer, Silence> {
+    if work > MOST_WORK { Err(Silence::TooLarge) } else { reference::check(module, LIMIT) }
+}
+
+/// Which checker answers.
+#[derive(Clone, Copy, PartialEq, Eq)]
+enum Source {
+    /// The reference or, where it is silent, the model.
+    Either,
+    Reference,
+    Model,
+}
+
+/// What is said of a file: why it is turned back, or the answer as `text` prints it.
+fn said(path: &Path, source: Source, text: impl Fn(&Answer) -> String) -> Result<String, String> {
+    let module = match layout::read(&read(path)?) {
+        Err(refusal) => return Ok(refusal_text(refusal)),
+        Ok(module) => module,
+    };
+    let outcome = model::check(&module);
+    if source == Source::Model {
+        return Ok(text(&outcome.answer));
+    }
+    match reference_answer(&module, outcome.work) {
+        Ok(answer) => Ok(text(&answer)),
+        Err(Silence::Broken(why)) => Err(format!("{}: broken: {why}", path.display())),
+        Err(silence) if source == Source::Reference => Ok(format!("{silence}\n")),
+        Err(silence) => {
+            eprintln!("{}: {silence}; the model answers", path.display());
+            Ok(text(&outcome.answer))
+        }
+    }
+}
+
+/// Prints a text for each file, under the file's name if there are several.
+fn for_each(files: &[&str], text: impl Fn(&Path) -> Result<String, String>) -> Done {
+    let files = expand(files)?;
+    for path in &files {
+        if files.len() > 1 {
+            println!("file {}", path.display());
+        }
+        print!("{}", text(path)?);
+    }
+    Ok(ExitCode::SUCCESS)
+}
+
+fn check(files: &[&str], source: Source) -> Done {
+    for_each(files, |path| said(path, source, Answer::text))
+}
+
+fn report(files: &[&str]) -> Done {
+    for_each(files, |path| said(path, Source::Either, |answer| answer.report(LENT_ROWS, LENT_ERRORS)))
+}
+
+fn selfcheck(files: &[&str]) -> Done {
+    let mut counts: BTreeMap<String, usize> = BTreeMap::new();
+    let mut differ = 0;
+    for path in expand(files)? {
+        let word = match layout::read(&read(&path)?) {
+            Err(_) => "refused".to_owned(),
+            Ok(module) => {
+                let outcome = model::check(&module);
+                match reference_answer(&module, outcome.work) {
+                    Ok(answer) => match difference(&answer, &outcome.answer) {
+                        None => "agree".to_owned(),
+                        Some(line) => {
+                            println!("{}: {line}", path.display());
+                            differ += 1;
+                            "differ".to_owned()
+                        }
+                    },
+                    Err(Silence::Broken(why)) => {
+                        println!("{}: broken: {why}", path.display());
+                        differ += 1;
+                        "broken".to_owned()
+                    }
+                    Err(silence) => silence.to_string(),
+                }
+            }
+        };
+        *counts.entry(word).or_default() += 1;
+    }
+    let counts: Vec<String> = counts.iter().map(|(word, count)| format!("{word} {count}")).collect();
+    println!("{}", counts.join(", "));
+    Ok(if differ == 0 { ExitCode::SUCCESS } else { ExitCode::FAILURE })
+}
+
+/// The first line in which the reference's answer and the model's differ.
+fn difference(reference: &Answer, model: &Answer) -> Option<String> {
+    let (reference, model) = (reference.text(), model.text());
+    if reference == model {
+        return None;
+    }
+    let (mut left, mut right) = (reference.lines(), model.lines());
+    loop {
+        match (left.next(), right.next()) {
+            (a, b) if a != b => return Some(format!("reference {a:?}, model {b:?}")),
+            _ => {}
+        }
+    }
+}
+
+fn generated(seed: &str, count: &str, folder: &str, class: &str) -> Done {
+    let (seed, count) = (number(seed)?, number(count)?);
+    if class != "mixed" && !generate::CLASSES.iter().any(|one| one.0 == class) {
+        return Err(format!("no class {class}"));
+    }
+    fs::create_dir_all(folder).map_err(|e| e.to_string())?;
+    for i in 0..count {
+        let bytes = generate::module(class, seed.wrapping_mul(1_000_003).wrapping_add(i));
+        write(Path::new(folder).join(format!("{class}-{seed}-{i:06}")), &bytes)?;
+    }
+    Ok(ExitCode::SUCCESS)
+}
+
+fn damaged(seed: &str, count: &str, folder: &str, files: &[&str]) -> Done {
+    let (seed, count) = (number(seed)?, number(count)?);
+    let files = expand(files)?;
+    fs::create_dir_all(folder).map_err(|e| e.to_string())?;
+    for i in 0..count {
+        let bytes = read(&files[i as usize % files.len()])?;
+        let copy = damage::damaged(&bytes, seed.wrapping_mul(1_000_003).wrapping_add(i));
+        write(Path::new(folder).join(format!("damaged-{seed}-{i:06}")), &copy)?;
+    }
+    Ok(ExitCode::SUCCESS)
+}
+
+fn shuffled(seed: &str, file: &str, out: &str) -> Done {
+    let bytes = shuffle::shuffled(&read(file)?, number(seed)?).ok_or("the module is turned back")?;
+    write(out, &bytes)?;
+    Ok(ExitCode::SUCCESS)
+}
+
+fn stats(files: &[&str]) -> Done {
+    let mut stats = Stats::default();
+    for path in expand(files)? {
+        stats.add(&read(path)?);
+    }
+    print!("{}", stats.text());
+    Ok(ExitCode::SUCCESS)
+}
+
+fn render(input: &str, output: &str, rows: &str, errors: &str) -> Done {
+    let (rows, errors) = (buffers::words(&read(rows)?)?, buffers::words(&read(errors)?)?);
+    print!("{}", buffers::answer(&read(input)?, &read(output)?, &rows, &errors)?.text());
+    Ok(ExitCode::SUCCESS)
+}
+
+fn tables(seed: &str, count: &str, folder: &str) -> Done {
+    let (seed, count) = (number(seed)?, number(count)?);
+    fs::create_dir_all(folder).map_err(|e| e.to_string())?;
+    for i in 0..count {
+        let bytes = buffers::table(seed.wrapping_mul(1_000_003).wrapping_add(i));
+        write(Path::new(folder).join(format!("rows-{seed}-{i:06}")), &bytes)?;
+    }
+    Ok(ExitCode::SUCCESS)
+}
+
+fn related(files: &[&str]) -> Done {
+    // The reference panics where a type has no words; those panics are expected.
+    std::panic::set_hook(Box::new(|_| {}));
+    for_each(files, |path| match buffers::rows(&buffers::words(&read(path)?)?) {
+        None => Ok("refused 8 at 0\n".to_owned()),
+        Some(rows) => relate::relations(&rows).map_err(|e| format!("{}: {e}", path.display())),
+    })
+}

@@ -1,0 +1,101 @@
+//! Words, assignable and castable over a table of rows, as the reference says and as the rules say.
+
+use std::panic::{self, AssertUnwindSafe};
+
+use crate::{
+    ir::{IntegerSize, Type as Direct},
+    rows::{Rows, STRING_NAME, Words, kind},
+    type_check::{Type, types_are_assignable},
+};
+
+/// The most nodes of a type, unfolded, for which the reference is asked.
+const MOST_NODES: u64 = 2_000;
+/// The most distinct aliases on a type for which the reference is asked.
+const MOST_LAYERS: usize = 8;
+
+/// The reference's type for a row.
+fn reference_type(rows: &Rows, number: u32) -> Type {
+    let row = rows.row(number);
+    let inner = || Box::new(reference_type(rows, row.first));
+    let name = |name: u32| if name == STRING_NAME { "String".to_owned() } else { format!("n{name}") };
+    match row.kind {
+        1 => Type::Unknown,
+        2 => Type::Direct(Direct::Void),
+        3 => Type::Direct(Direct::Boolean),
+        4 => Type::Direct(Direct::UnsignedInteger(IntegerSize::Bits16)),
+        5 => Type::Direct(Direct::SignedInteger(IntegerSize::Bits16)),
+        kind::POINTER => Type::Pointer(inner()),
+        kind::ARRAY => Type::Array(inner(), row.second as usize),
+        kind::STRUCT => {
+            let members = rows.members(row.first);
+            Type::Struct(members.iter().map(|&(field, ty)| (name(field), reference_type(rows, ty))).collect())
+        }
+        kind::FUNCTION => Type::FunctionReference {
+            argument_types: rows.members(row.second).iter().map(|&(_, ty)| reference_type(rows, ty)).collect(),
+            return_type: inner(),
+        },
+        kind::ALIAS => Type::Aliased(inner(), name(row.name)),
+        kind::DISTINCT => Type::DistinctAliased(inner(), name(row.name)),
+        cell => unreachable!("a cell of kind {cell} is no type"),
+    }
+}
+
+/// The words that the reference gives a type; none where its numbers overflow.
+fn reference_words(ty: &Type) -> Option<Words> {
+    let Ok(direct) = panic::catch_unwind(AssertUnwindSafe(|| ty.to_ir_type())) else { return Some(Words::Unknown) };
+    match panic::catch_unwind(AssertUnwindSafe(|| direct.word_size())) {
+        Err(_) => None,
+        Ok(words) if words > 65_535 => Some(Words::TooLarge),
+        Ok(words) => Some(Words::Known(words as u32)),
+    }
+}
+
+fn distinct_layers(rows: &Rows, mut number: u32) -> usize {
+    let mut layers = 0;
+    while rows.row(number).kind == kind::DISTINCT {
+        number = rows.row(number).first;
+        layers += 1;
+    }
+    layers
+}
+
+/// The words of every type row, then every assignable and every castable pair. The reference is asked wherever it can
+/// answer; where it and the rules differ, that is the error.
+pub fn relations(rows: &Rows) -> Result<String, String> {
+    let sizes = rows.unfolded_sizes();
+    let words = rows.words();
+    let numbers: Vec<u32> = (1..=rows.count() as u32).filter(|&number| !rows.row(number).is_cell()).collect();
+    let small = |number: u32| sizes[number as usize - 1] <= MOST_NODES && distinct_layers(rows, number) <= MOST_LAYERS;
+    let types: Vec<Option<Type>> =
+        numbers.iter().map(|&number| small(number).then(|| reference_type(rows, number))).collect();
+    let mut text = String::new();
+    for (&number, ty) in numbers.iter().zip(&types) {
+        let said = words[number as usize - 1];
+        let asked = ty.as_ref().and_then(reference_words);
+        if asked.is_some_and(|asked| asked != said) {
+            return Err(format!("words of row {number}: the reference says {asked:?}, the rules {said:?}"));
+        }
+        text += &match said {
+            Words::Known(words) => format!("words {number} {words}\n"),
+            Words::TooLarge => format!("words {number} too large\n"),
+            Words::Unknown => format!("words {number} unknown\n"),
+        };
+    }
+    for (&a, a_type) in numbers.iter().zip(&types) {
+        for (&b, b_type) in numbers.iter().zip(&types) {
+            let (assignable, castable) = (rows.assignable(a, b), rows.castable(a, b));
+            if let (Some(x), Some(y)) = (a_type, b_type)
+                && (types_are_assignable(x, y) != assignable || x.is_castable_to(y) != castable)
+            {
+                return Err(format!("rows {a} and {b}: the reference and the rules differ"));
+            }
+            if assignable {
+                text += &format!("assignable {a} {b}\n");
+            }
+            if castable {
+                text += &format!("castable {a} {b}\n");
+            }
+        }
+    }
+    Ok(text)
+}

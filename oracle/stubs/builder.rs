@@ -1,0 +1,1 @@
+// Stands for the backend's function builder, which the type checker never reaches.

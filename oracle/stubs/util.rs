@@ -1,0 +1,1 @@
+// Stands for the backend's helpers, which the type checker never reaches.
