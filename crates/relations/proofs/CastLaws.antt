@@ -1,0 +1,92 @@
+-- Laws of castable types, for the turns of its two loops.
+use Prim.Native.Nat.{ℕ, _+_}
+use mathlib.Core.Path.{_≡_, refl, sym, ap, _∙_}
+use mathlib.Core.List.{List, [], _∷_, _++_, map}
+use mathlib.Core.Bool.{Bool, true, false, _&&_, _||_, or-assoc}
+use borrow.Author.Tests.{eq-eqb, ne-eqb, eqb-true, eqb-false}
+use lib.Dec.{eqb}
+use Rattle.types.specs.Ty.{Ty, end, node, is, kindOf, firstOf, same, desugar, distinctKind}
+use Rattle.types.specs.Table.{Table, unfolded}
+use Rattle.types.specs.Post.{TypePart}
+use Rattle.relations.specs.Relations.{Pair, pair, strips, castPairs, castKinds, castFits, someFits, isCastableTo}
+use Rattle.types.proofs.Laws.{injective, same-refl, same-false}
+
+fits-append : (l m : List Pair) → someFits (l ++ m) ≡ (someFits l || someFits m)
+unfolding someFits
+fits-append [] m = refl
+fits-append (p ∷ l) m = rw (fits-append l m) (sym (or-assoc (castFits p) (someFits l) (someFits m)))
+
+-- A search over the strips of a type: the type itself, then, under a distinct alias, the strips of what it stands for
+module _ (f : List Ty → Bool) (p : Ty → Bool) (none-left : f [] ≡ false) (one-more : (t : Ty) (l : List Ty) → f (t ∷ l) ≡ (p t || f l)) where
+  strips-turn : (t : Ty) → f (strips t) ≡ (p t || (is distinctKind t && f (strips (firstOf t))))
+  unfolding strips
+  strips-turn end = one-more end [] ∙ rw none-left
+  strips-turn (node k a b s n) = go (eqb k distinctKind) refl
+    where
+      go : (c : Bool) → eqb k distinctKind ≡ c → f (strips (node k a b s n)) ≡ (p (node k a b s n) || (eqb k distinctKind && f (strips a)))
+      go true e = rw e (one-more _ _)
+      go false e = rw e (one-more _ _ ∙ rw none-left)
+
+-- The search over the strips of the target, and the search over those of the source
+abbrev targetFits : (source target : Ty) → Bool
+targetFits source target = someFits (map (pair source) (strips target))
+
+target-turn : (source t : Ty) → targetFits source t ≡ (castFits (pair source t) || (is distinctKind t && targetFits source (firstOf t)))
+unfolding someFits
+target-turn source = strips-turn (λ l. someFits (map (pair source) l)) (λ t. castFits (pair source t)) refl (λ t l. refl)
+
+source-turn : (target t : Ty) → isCastableTo t target ≡ (targetFits t target || (is distinctKind t && isCastableTo (firstOf t) target))
+unfolding someFits castPairs isCastableTo
+source-turn target =
+    strips-turn (λ l. someFits (castPairs l (strips target))) (λ t. targetFits t target) refl (λ t l. fits-append (map (pair t) (strips target)) (castPairs l (strips target)))
+
+-- A turn of either search at the type t, where `found` is the test of t itself
+module _ (searched test : Ty → Bool) (turn : (t : Ty) → searched t ≡ (test t || (is distinctKind t && searched (firstOf t))))
+    (t : Ty) (answer : Bool) (means : searched t ≡ answer) (found : Bool) (tested : found ≡ test t) where
+  strip-fits : found ≡ true → true ≡ answer
+  strip-fits hit = sym (sym means ∙ turn t ∙ rw (← tested, hit))
+
+  module _ (miss : found ≡ false) (k : ℕ) (k-is : k ≡ kindOf t) where
+    strip-ends : (k ≡ distinctKind → ⊥) → false ≡ answer
+    strip-ends other = sym (sym means ∙ turn t ∙ rw (← tested, miss, ← k-is, ne-eqb k distinctKind other))
+
+    strip-goes-on : k ≡ distinctKind → (u : Ty) → u ≡ firstOf t → searched u ≡ answer
+    strip-goes-on distinct u e = sym (sym means ∙ turn t ∙ rw (← tested, miss, ← k-is, eq-eqb k distinctKind distinct, ← e))
+
+module _ (w : List ℕ) (count source target : ℕ) (answer found : Bool) where
+  module _ (means : targetFits (unfolded w source) (unfolded w target) ≡ answer) (tested : found ≡ castFits (pair (unfolded w source) (unfolded w target))) where
+    pub target-fits : found ≡ true → true ≡ answer
+    target-fits = strip-fits (targetFits (unfolded w source)) (λ t. castFits (pair (unfolded w source) t)) (target-turn (unfolded w source)) (unfolded w target) answer means found tested
+
+    module _ (miss : found ≡ false) (k : ℕ) (k-is : k ≡ kindOf (unfolded w target)) where
+      pub target-ends : (k ≡ distinctKind → ⊥) → false ≡ answer
+      target-ends = strip-ends (targetFits (unfolded w source)) (λ t. castFits (pair (unfolded w source) t)) (target-turn (unfolded w source)) (unfolded w target) answer means found tested miss k k-is
+
+      pub target-goes-on : k ≡ distinctKind → (next : ℕ) → TypePart w count target (firstOf (unfolded w target)) next → targetFits (unfolded w source) (unfolded w next) ≡ answer
+      target-goes-on distinct next part =
+          strip-goes-on (targetFits (unfolded w source)) (λ t. castFits (pair (unfolded w source) t)) (target-turn (unfolded w source)) (unfolded w target) answer means found tested miss k k-is distinct (unfolded w next) (part .type)
+
+  module _ (means : isCastableTo (unfolded w source) (unfolded w target) ≡ answer) (tested : found ≡ targetFits (unfolded w source) (unfolded w target)) where
+    pub source-fits : found ≡ true → true ≡ answer
+    source-fits = strip-fits (λ t. isCastableTo t (unfolded w target)) (λ t. targetFits t (unfolded w target)) (source-turn (unfolded w target)) (unfolded w source) answer means found tested
+
+    module _ (miss : found ≡ false) (k : ℕ) (k-is : k ≡ kindOf (unfolded w source)) where
+      pub source-ends : (k ≡ distinctKind → ⊥) → false ≡ answer
+      source-ends = strip-ends (λ t. isCastableTo t (unfolded w target)) (λ t. targetFits t (unfolded w target)) (source-turn (unfolded w target)) (unfolded w source) answer means found tested miss k k-is
+
+      pub source-goes-on : k ≡ distinctKind → (next : ℕ) → TypePart w count source (firstOf (unfolded w source)) next → isCastableTo (unfolded w next) (unfolded w target) ≡ answer
+      source-goes-on distinct next part =
+          strip-goes-on (λ t. isCastableTo t (unfolded w target)) (λ t. targetFits t (unfolded w target)) (source-turn (unfolded w target)) (unfolded w source) answer means found tested miss k k-is distinct (unfolded w next) (part .type)
+
+-- A pair that does not fit by its kinds, by the rows that its two types desugar to
+module _ (w : List ℕ) (count : ℕ) (table : Table w count) (source target j k : ℕ) (j-is : j ≡ kindOf (unfolded w source)) (k-is : k ≡ kindOf (unfolded w target)) (b : Bool) (tested : b ≡ castKinds j k) where
+  pub fits-by-kind : b ≡ true → true ≡ castFits (pair (unfolded w source) (unfolded w target))
+  fits-by-kind hit = rw (← j-is, ← k-is, ← tested, hit)
+
+  pub fits-desugared : b ≡ false → (from to : ℕ) → TypePart w count (source + 1) (desugar (unfolded w source)) from → TypePart w count (target + 1) (desugar (unfolded w target)) to
+      → eqb from to ≡ castFits (pair (unfolded w source) (unfolded w target))
+  fits-desugared miss from to s t = rw (← j-is, ← k-is, ← tested, miss, ← s .type, ← t .type) (go (eqb from to) refl)
+    where
+      go : (c : Bool) → eqb from to ≡ c → eqb from to ≡ same (unfolded w from) (unfolded w to)
+      go true e = e ∙ sym (same-refl (unfolded w from)) ∙ ap (λ (z : ℕ). same (unfolded w from) (unfolded w z)) (eqb-true from to e)
+      go false e = e ∙ sym (same-false _ _ (λ q. eqb-false from to e (injective w count table from to (s .is .high) (t .is .high) q)))

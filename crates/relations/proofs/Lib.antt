@@ -1,0 +1,5 @@
+pub mod Bench
+pub mod AssignLaws
+pub mod CastLaws
+pub mod WordLaws
+pub mod FillLaws

@@ -1,0 +1,21 @@
+use native.Mathlib.Nat.{mul-le-mul, le-pred-of-lt}
+use native.Mathlib.Omega.{arith}
+use borrow.Author.Needs.{needs}
+use Rattle.relations.proofs.array_word.Statement.{statement}
+use Rattle.relations.proofs.array_word.Tie as tie
+
+mul-capped-words : tie.Need-mul-capped-words
+mul-capped-words c = let p = mul-le-mul (le-pred-of-lt (c .fits .size .fits)) (le-pred-of-lt (c .fits .element .fits)) in omega arith
+
+capped-words-requires : tie.Need-capped-words-requires
+capped-words-requires c κs = search needs
+
+known-word-requires : tie.Need-known-word-requires
+known-word-requires c κs = search needs
+
+returns : tie.Need-returns
+returns c = rw (← c .before .capped-words .ensures) (c .known-word .ensures)
+
+pub array-word-spec : {M : Type 1} → statement M
+array-word-spec =
+    tie.close (tie.spec mul-capped-words capped-words-requires known-word-requires returns)

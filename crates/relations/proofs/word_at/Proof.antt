@@ -1,0 +1,23 @@
+use Rattle.relations.proofs.FillLaws.{word-of-row}
+use borrow.Author.Needs.{needs}
+use Rattle.relations.proofs.word_at.Statement.{statement}
+use Rattle.relations.proofs.word_at.Tie as tie
+
+returns : tie.Need-returns
+returns c = search needs
+
+sub-result : tie.Need-sub-result
+sub-result c = search needs
+
+mul-result : tie.Need-mul-result
+mul-result c = search needs
+
+shared-slice-read-result : tie.Need-shared-slice-read-result
+shared-slice-read-result c = search needs
+
+returns-2 : tie.Need-returns-2
+returns-2 c = search word-of-row
+
+pub word-at-spec : {M : Type 1} → statement M
+word-at-spec =
+    tie.close (tie.spec returns sub-result mul-result shared-slice-read-result returns-2)

@@ -1,0 +1,4 @@
+pub mod Relations
+pub mod WordSize
+pub mod Entry
+pub mod Inner
