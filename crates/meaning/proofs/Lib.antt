@@ -1,0 +1,11 @@
+pub mod BenchSheet
+pub mod Permutation
+pub mod Equality
+pub mod Maps
+pub mod Agree
+pub mod Places
+pub mod Order
+pub mod Size
+pub mod Whole
+pub mod Needed
+pub mod TwoOrders

@@ -1,0 +1,11 @@
+pub mod TypeError
+pub mod Context
+pub mod Convert
+pub mod Expression
+pub mod Compound
+pub mod Statement
+pub mod Divergence
+pub mod Module
+pub mod Promise
+pub mod JoiningOrder
+pub mod BenchSheet

@@ -1,0 +1,9 @@
+pub mod ShapeLaws
+pub mod NameLaws
+pub mod LayoutLaws
+pub mod Open
+pub mod Example
+pub mod Parts
+pub mod NumberLaws
+pub mod Decode
+pub mod TypeTrees

@@ -1,0 +1,16 @@
+-- `node::shape::may_stand` meets its contract. Assumes nothing.
+use Rattle.node.specs.Shape.{mayStand}
+use borrow.Author.Tests.{eq-eqb, ne-eqb}
+use Rattle.node.proofs.shape.may_stand.Statement.{statement}
+use Rattle.node.proofs.shape.may_stand.Tie as tie
+
+returns : tie.Need-returns
+unfolding mayStand
+returns c = simp (eq-eqb _ _ (c .if1 .taken))
+
+returns-2 : tie.Need-returns-2
+unfolding mayStand
+returns-2 c = simp (ne-eqb _ _ (c .before .if1 .left))
+
+pub may-stand-spec : {M : Type 1} → statement M
+may-stand-spec = tie.close (tie.spec returns returns-2)

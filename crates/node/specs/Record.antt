@@ -1,0 +1,294 @@
+-- From an item's own bytes to its tree. Nothing here depends on where the item stands in the module.
+use Prim.Native.Nat.{ℕ, zero, suc, _+_, _*_, _-_}
+use mathlib.Core.Bool.{Bool, true, false, cond, _&&_, _||_, not}
+use mathlib.Core.List.{List, [], _∷_, _++_}
+use mathlib.Core.Option.{Option, none, some}
+use lib.Dec.{eqb, leb, ltb}
+use lib.ListN.{length, take, drop}
+use Rattle.node.specs.Bytes.{halfAt, wordAt}
+use Rattle.node.specs.Shape.{shapeOf, dueIn}
+use Rattle.node.specs.Names.{stands}
+use Rattle.node.specs.Layout.{kindAt, startAt, stopAt}
+use Rattle.node.specs.declared.shape.Rule.{Rule}
+use Rattle.node.specs.declared.shape.Rule.the-variants.{Unused, Slot, Name, Any, Base, Flag, Operator, Comparison, Flags}
+use Rattle.node.specs.Tree.{Location, location, TypeNode, nameType, voidType, pointerType, arrayType, structType, noFields, fieldThen}
+use Rattle.node.specs.Tree.{Expression, identifier, integer, boolean, stringLiteral, call, index, cast, pointerTake, pointerDereference, fieldAccess, bitwiseNot, booleanNot, booleanAnd, arithmeticBinOp, comparisonBinOp, sizeof, noExpressions, expressionThen}
+use Rattle.node.specs.Tree.{CompoundField, Compound, arrayCompound, structCompound, InitialValue, noValue, assigned, compounded}
+use Rattle.node.specs.Tree.{Statement, block, expression, variableDeclaration, assignment, compoundAssignment, return, loop, while, break, «if», ifElse, inlineAssembly, noStatements, statementThen}
+use Rattle.node.specs.Tree.{Parameter, Item, functionDefinition, typeAlias, globalDeclaration, otherItem}
+
+-- What a record says before its children: where it stands, its kind, its first two fields (0 where its kind has none)
+pub record Head : Type 0 where
+  pub location : Location
+  pub kind : ℕ
+  pub first : ℕ
+  pub second : ℕ
+
+-- A list of records: the first with its free bytes and its children, then the next
+pub data Records : Type 0 where
+  noRecords : Records
+  recordThen : Head → (bytes : List ℕ) → (children next : Records) → Records
+
+-- The head of a record is 16 bytes: length, kind, file, line, column
+abbrev pub headSize : ℕ
+headSize = 16
+
+-- What the list of records says of a kind: how many fields it has, whether bytes follow them, whether its first field is a slot
+abbrev pub fieldCount : (kind : ℕ) → ℕ
+fieldCount kind = shapeOf kind .fields
+
+abbrev pub holdsFreeBytes : (kind : ℕ) → Bool
+holdsFreeBytes kind = dueIn (shapeOf kind .holds) .free
+
+abbrev pub isSlot : Rule → Bool
+isSlot Unused = false
+isSlot Slot = true
+isSlot Name = false
+isSlot Any = false
+isSlot Base = false
+isSlot Flag = false
+isSlot Operator = false
+isSlot Comparison = false
+isSlot Flags = false
+
+abbrev pub hasSlot : (kind : ℕ) → Bool
+hasSlot kind = isSlot (shapeOf kind .first)
+
+abbrev pub locationAt : List ℕ → (at : ℕ) → Location
+locationAt s at = location at (halfAt s (at + 6)) (wordAt s (at + 8)) (wordAt s (at + 12))
+
+-- The head of a record of a kind
+abbrev pub headOf : (kind : ℕ) → List ℕ → (at : ℕ) → Head
+headOf k s at =
+    record {
+      location = locationAt s at;
+      kind = k;
+      first = cond (ltb 0 (fieldCount k)) (wordAt s (at + 16)) 0;
+      second = cond (ltb 1 (fieldCount k)) (wordAt s (at + 20)) 0;
+    }
+
+abbrev pub headAt : List ℕ → (at : ℕ) → Head
+headAt s at = headOf (kindAt s at) s at
+
+-- What follows a record's fields, as bytes
+abbrev pub bytesAt : List ℕ → (at : ℕ) → List ℕ
+bytesAt s at = take (stopAt s at - startAt s at) (drop (startAt s at) s)
+
+-- Goes on only if a test holds
+abbrev pub goOn : {A : Type 0} → Bool → (Unit {0} → A) → A → A
+goOn true f stop = f tt
+goOn false f stop = stop
+
+-- A record with its children, and the records after it, each worked out only if it is there; `levels` gives the children
+abbrev pub recordWith : (levels : ℕ → ℕ → Records) → List ℕ → (at : ℕ) → (rest : Records) → Records
+recordWith levels s at rest =
+    recordThen (headAt s at) (bytesAt s at) (goOn (not (holdsFreeBytes (kindAt s at))) (λ _. levels (startAt s at) (stopAt s at)) noRecords) rest
+
+-- The records that follow each other from `at` to `end`; the first number bounds how many
+unfoldable pub recordsWith : (fuel : ℕ) → (levels : ℕ → ℕ → Records) → List ℕ → (at end : ℕ) → Records
+recordsWith zero levels s at end = noRecords
+recordsWith (suc n) levels s at end = goOn (stands s at end) (λ _. recordWith levels s at (recordsWith n levels s (stopAt s at) end)) noRecords
+
+-- The records from `at` to `end`, so many levels deep
+unfoldable pub recordsAt : List ℕ → (depth at end : ℕ) → Records
+recordsAt s zero at end = noRecords
+recordsAt s (suc d) at end = recordsWith (suc (length s)) (recordsAt s d) s at end
+
+abbrev pub next : Records → Records
+next noRecords = noRecords
+next (recordThen h s children rest) = rest
+
+abbrev pub isNone : Records → Bool
+isNone noRecords = true
+isNone (recordThen h s children rest) = false
+
+-- T: `children` and `rest` are the children and the records after it, as types
+abbrev pub typeOf : Head → (children rest : TypeNode) → TypeNode
+typeOf h children rest =
+    cond (eqb (h .kind) 16) (nameType (h .location) (h .second))
+    (cond (eqb (h .kind) 17) (voidType (h .location))
+    (cond (eqb (h .kind) 18) (pointerType (h .location) children)
+    (cond (eqb (h .kind) 19) (arrayType (h .location) (h .second) children)
+    (cond (eqb (h .kind) 20) (structType (h .location) children) (cond (eqb (h .kind) 21) (fieldThen (h .first) children rest) noFields)))))
+
+unfoldable pub toType : Records → TypeNode
+toType noRecords = noFields
+toType (recordThen h s children rest) = typeOf h (toType children) (toType rest)
+
+-- A list of expressions, as it stands in a tree
+unfoldable pub expressionList : List Expression → Expression
+expressionList [] = noExpressions
+expressionList (e ∷ es) = expressionThen e (expressionList es)
+
+abbrev pub firstExpression : List Expression → Expression
+firstExpression [] = noExpressions
+firstExpression (e ∷ es) = e
+
+abbrev pub laterExpressions : List Expression → List Expression
+laterExpressions [] = []
+laterExpressions (e ∷ es) = es
+
+abbrev pub secondExpression : List Expression → Expression
+secondExpression es = firstExpression (laterExpressions es)
+
+-- E: `es` are the children as expressions, `t` and `u` the first and the second child as a type
+abbrev pub expressionOf : Head → (bytes : List ℕ) → (es : List Expression) → (t u : TypeNode) → Expression
+expressionOf h s es t u =
+    cond (eqb (h .kind) 32) (identifier (h .location) (h .second))
+    (cond (eqb (h .kind) 33) (integer (h .location) (h .second) s)
+    (cond (eqb (h .kind) 34) (boolean (h .location))
+    (cond (eqb (h .kind) 35) (stringLiteral (h .location))
+    (cond (eqb (h .kind) 36) (call (h .location) (firstExpression es) (expressionList (laterExpressions es)))
+    (cond (eqb (h .kind) 37) (index (h .location) (firstExpression es) (secondExpression es))
+    (cond (eqb (h .kind) 38) (cast (h .location) (firstExpression es) u)
+    (cond (eqb (h .kind) 39) (pointerTake (h .location) (firstExpression es))
+    (cond (eqb (h .kind) 40) (pointerDereference (h .location) (firstExpression es))
+    (cond (eqb (h .kind) 41) (fieldAccess (h .location) (h .second) (firstExpression es))
+    (cond (eqb (h .kind) 42) (bitwiseNot (h .location) (firstExpression es))
+    (cond (eqb (h .kind) 43) (booleanNot (h .location) (firstExpression es))
+    (cond (eqb (h .kind) 44) (booleanAnd (h .location) (firstExpression es) (secondExpression es))
+    (cond (eqb (h .kind) 45) (arithmeticBinOp (h .location) (h .second) (firstExpression es) (secondExpression es))
+    (cond (eqb (h .kind) 46) (comparisonBinOp (h .location) (h .second) (firstExpression es) (secondExpression es))
+    (cond (eqb (h .kind) 47) (sizeof (h .location) t) noExpressions)))))))))))))))
+
+unfoldable pub toExpressions : Records → List Expression
+toExpressions noRecords = []
+toExpressions (recordThen h s children rest) = expressionOf h s (toExpressions children) (toType children) (toType (next children)) ∷ toExpressions rest
+
+abbrev pub toExpression : Records → Expression
+toExpression r = firstExpression (toExpressions r)
+
+-- Records 50
+unfoldable pub toCompoundFields : Records → List CompoundField
+toCompoundFields noRecords = []
+toCompoundFields (recordThen h s children rest) = record { location = h .location; name = h .first; value = toExpression children } ∷ toCompoundFields rest
+
+-- C
+abbrev pub compoundOf : Head → (children : Records) → Compound
+compoundOf h children =
+    cond (eqb (h .kind) 48) (arrayCompound (h .location) (expressionList (toExpressions children))) (structCompound (h .location) (toCompoundFields children))
+
+abbrev pub toCompound : Records → Compound
+toCompound noRecords = structCompound (location 0 0 0 0) []
+toCompound (recordThen h s children rest) = compoundOf h children
+
+-- Nothing, E or C
+abbrev pub toInitialValue : Records → InitialValue
+toInitialValue noRecords = noValue
+toInitialValue (recordThen h s children rest) =
+    cond (eqb (h .kind) 48 || eqb (h .kind) 49) (compounded (compoundOf h children)) (assigned (toExpression (recordThen h s children rest)))
+
+-- Nothing or E
+abbrev pub toOptional : Records → Option Expression
+toOptional noRecords = none
+toOptional (recordThen h s children rest) = some (toExpression (recordThen h s children rest))
+
+-- A list of statements, as it stands in a tree
+unfoldable pub statementList : List Statement → Statement
+statementList [] = noStatements
+statementList (t ∷ ts) = statementThen t (statementList ts)
+
+abbrev pub firstStatement : List Statement → Statement
+firstStatement [] = noStatements
+firstStatement (t ∷ ts) = t
+
+abbrev pub laterStatements : List Statement → List Statement
+laterStatements [] = []
+laterStatements (t ∷ ts) = ts
+
+abbrev pub noneLeft : List Statement → Bool
+noneLeft [] = true
+noneLeft (t ∷ ts) = false
+
+-- The sides of an if: `ts` are its condition's place and the statements after it
+abbrev pub ifOf : Location → (condition : Expression) → (sides : List Statement) → Statement
+ifOf l condition sides =
+    cond (noneLeft (laterStatements sides)) («if» l condition (firstStatement sides)) (ifElse l condition (firstStatement sides) (firstStatement (laterStatements sides)))
+
+-- S: `ts` are the children as statements
+abbrev pub statementOf : Head → (children : Records) → (ts : List Statement) → Statement
+statementOf h children ts =
+    cond (eqb (h .kind) 64) (block (h .location) (statementList ts))
+    (cond (eqb (h .kind) 65) (expression (h .location) (toExpression children))
+    (cond (eqb (h .kind) 66) (variableDeclaration (h .location) (h .first) (toType children) (toInitialValue (next children)))
+    (cond (eqb (h .kind) 67) (assignment (h .location) (toExpression children) (toExpression (next children)))
+    (cond (eqb (h .kind) 68) (compoundAssignment (h .location) (toExpression children) (toCompound (next children)))
+    (cond (eqb (h .kind) 69) (return (h .location) (toOptional children))
+    (cond (eqb (h .kind) 70) (loop (h .location) (firstStatement ts))
+    (cond (eqb (h .kind) 71) (while (h .location) (toExpression children) (firstStatement (laterStatements ts)))
+    (cond (eqb (h .kind) 72) (break (h .location))
+    (cond (eqb (h .kind) 73) (ifOf (h .location) (toExpression children) (laterStatements ts))
+    (cond (eqb (h .kind) 74) (inlineAssembly (h .location)) noStatements))))))))))
+
+unfoldable pub toStatements : Records → List Statement
+toStatements noRecords = []
+toStatements (recordThen h s children rest) = statementOf h children (toStatements children) ∷ toStatements rest
+
+-- Records 85, then the body or nothing
+unfoldable pub toParameters : Records → List Parameter
+toParameters noRecords = []
+toParameters (recordThen h s children rest) = cond (eqb (h .kind) 85) (record { name = h .first; type = toType children } ∷ toParameters rest) []
+
+unfoldable pub toBody : Records → Option Statement
+toBody noRecords = none
+toBody (recordThen h s children rest) = cond (eqb (h .kind) 85) (toBody rest) (some (statementOf h children (toStatements children)))
+
+-- Flags: 1 distinct, 2 internal
+abbrev pub isDistinct : (flags : ℕ) → Bool
+isDistinct flags = eqb flags 1 || eqb flags 3
+
+abbrev pub isInternal : (flags : ℕ) → Bool
+isInternal flags = eqb flags 2 || eqb flags 3
+
+abbrev pub itemOf : Head → (children : Records) → Item
+itemOf h children =
+    cond (eqb (h .kind) 80) (functionDefinition (h .location) (h .first) (toType children) (toParameters (next children)) (toBody (next children)))
+    (cond (eqb (h .kind) 81) (typeAlias (h .location) (h .first) (isDistinct (h .second)) (isInternal (h .second)) (toType children))
+    (cond (eqb (h .kind) 83) (globalDeclaration (h .location) (h .first) (toType children) (toInitialValue (next children))) otherItem))
+
+abbrev pub toItem : Records → Item
+toItem noRecords = otherItem
+toItem (recordThen h s children rest) = itemOf h children
+
+-- The records of an item, from its own bytes; items stand at depth 2 of 64
+abbrev pub itemRecords : List ℕ → Records
+itemRecords bytes = recordsAt bytes 63 0 (length bytes)
+
+-- The tree of an item
+unfoldable pub itemTree : List ℕ → Item
+itemTree bytes = toItem (itemRecords bytes)
+
+-- The places of the slots at any depth, in byte order
+unfoldable pub slotPlaces : Records → List ℕ
+slotPlaces noRecords = []
+slotPlaces (recordThen h s children rest) =
+    cond (hasSlot (h .kind)) ((h .location .at + headSize) ∷ []) [] ++ slotPlaces children ++ slotPlaces rest
+
+-- The places of an item's slots, from the start of the item
+unfoldable pub itemSlotPlaces : List ℕ → List ℕ
+itemSlotPlaces bytes = slotPlaces (itemRecords bytes)
+
+-- The tree of one record by its place, and of the records from one place to another, so many levels deep
+abbrev pub typeAt : List ℕ → (depth at : ℕ) → TypeNode
+typeAt s d at = toType (recordsAt s d at (stopAt s at))
+
+abbrev pub fieldsAt : List ℕ → (depth from end : ℕ) → TypeNode
+fieldsAt s d from end = toType (recordsAt s d from end)
+
+abbrev pub expressionAt : List ℕ → (depth at : ℕ) → Expression
+expressionAt s d at = toExpression (recordsAt s d at (stopAt s at))
+
+abbrev pub expressionsAt : List ℕ → (depth from end : ℕ) → Expression
+expressionsAt s d from end = expressionList (toExpressions (recordsAt s d from end))
+
+abbrev pub compoundAt : List ℕ → (depth at : ℕ) → Compound
+compoundAt s d at = toCompound (recordsAt s d at (stopAt s at))
+
+abbrev pub compoundFieldsAt : List ℕ → (depth from end : ℕ) → List CompoundField
+compoundFieldsAt s d from end = toCompoundFields (recordsAt s d from end)
+
+abbrev pub statementAt : List ℕ → (depth at : ℕ) → Statement
+statementAt s d at = firstStatement (toStatements (recordsAt s d at (stopAt s at)))
+
+abbrev pub statementsAt : List ℕ → (depth from end : ℕ) → Statement
+statementsAt s d from end = statementList (toStatements (recordsAt s d from end))

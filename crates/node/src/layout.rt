@@ -1,0 +1,130 @@
+// The walk over a module's layout: refusals 1 to 3.
+use crate::bytes::half;
+use crate::bytes::length_at;
+use crate::bytes::word;
+use crate::names::name_count;
+use crate::shape::Due;
+use crate::shape::Holds;
+use crate::shape::Rule;
+use crate::shape::UNLISTED;
+use crate::shape::allows;
+use crate::shape::due_in;
+use crate::shape::is_done;
+use crate::shape::may_stand;
+use crate::shape::shape_of;
+use crate::shape::state_after;
+ghost use mathlib.Core.Path.{_≡_};
+ghost use mathlib.Core.Bool.{true};
+ghost use Prim.Native.Nat.{_+_, _≤_};
+ghost use lib.ListN.{length};
+ghost use Rattle.node.specs.Layout.{Part, isBad, headAt, Walked, layoutOf};
+
+// The most bytes of a module, and the most levels of records, the module being the first.
+pub const MAX_BYTES: usize = 65536;
+
+pub const MAX_DEPTH: usize = 64;
+
+pub enum Layout {
+    Good,
+    TooLong,
+    Fault(usize),
+    TooDeep(usize),
+}
+
+// The head of a record: where its children start and stop, their state, and the state of the list after the record; or the place of a fault.
+pub enum Head {
+    Body(usize, usize, Holds, Holds),
+    Wrong(usize),
+}
+
+// Whether the field at `at`, the nth of a record with so many fields, if it has so many, has a value that its rule does not allow.
+fn is_bad(s: &[u8], names: u32, nth: usize, fields: usize, rule: Rule, at: usize) -> bool
+    requires { ⌜ (nth ≤ fields → at + 4 ≤ length (now s)) ⌝ }
+    ensures { λ r. ⌜ r ≡ isBad names (now (s .entry)) nth fields rule at ⌝ }
+{
+    if fields < nth {
+        return false;
+    }
+    !allows(names, rule, word(s, at))
+}
+
+// The head of the record that is due at `at`, in a list that ends at `end`.
+fn head_at(s: &[u8], names: u32, at: usize, end: usize, due: Due) -> Head
+    requires { ⌜ Part (now s) at end ⌝ }
+    ensures { λ r. ⌜ r ≡ headAt names (now (s .entry)) at end due ⌝ }
+{
+    let room = end - at;
+    if room < 16 {
+        return Head::Wrong(at);
+    }
+    let len = length_at(s, at);
+    if room < len {
+        return Head::Wrong(at);
+    }
+    let shape = shape_of(half(s, at + 4));
+    let fields = shape.fields;
+    if len < 16 + 4 * fields {
+        return Head::Wrong(at);
+    }
+    let class = shape.class;
+    if !may_stand(due, class) {
+        return Head::Wrong(at);
+    }
+    let first = shape.first;
+    if is_bad(s, names, 1, fields, first, at + 16) {
+        return Head::Wrong(at + 16);
+    }
+    let second = shape.second;
+    if is_bad(s, names, 2, fields, second, at + 20) {
+        return Head::Wrong(at + 20);
+    }
+    let holds = shape.holds;
+    let next = state_after(due, class);
+    Head::Body(at + 16 + 4 * fields, at + len, holds, next)
+}
+
+// The layout of a child list, with so many levels left for its records.
+fn walk_list(s: &[u8], names: u32, from: usize, end: usize, depth: usize, holds: Holds) -> Layout
+    requires { ⌜ Part (now s) from end ⌝ }
+    ensures { λ r. ⌜ Walked names (now (s .entry)) depth from end holds r ⌝ }
+{
+    let mut at = from;
+    let mut state = holds;
+    loop {
+        let due = due_in(state);
+        if is_done(due, at, end) {
+            return Layout::Good;
+        }
+        if due.class == UNLISTED {
+            return Layout::Fault(at);
+        }
+        if depth < 1 {
+            return Layout::TooDeep(at);
+        }
+        let head = head_at(s, names, at, end, due);
+        match head {
+            Head::Wrong(place) => return Layout::Fault(place),
+            Head::Body(start, stop, inner, next) => {
+                let layout = walk_list(s, names, start, stop, depth - 1, inner);
+                match layout {
+                    Layout::Good => {
+                        at = stop;
+                        state = next;
+                    }
+                    _ => return layout,
+                }
+            }
+        }
+    }
+}
+
+// Refusals 1 to 3, in the order in which a walk in byte order meets them.
+pub fn check_layout(s: &[u8]) -> Layout
+    ensures { λ r. ⌜ r ≡ layoutOf (now (s .entry)) ⌝ }
+{
+    let n = s.len();
+    if MAX_BYTES < n {
+        return Layout::TooLong;
+    }
+    walk_list(s, name_count(s), 0, n, MAX_DEPTH, Holds::OneModule)
+}
