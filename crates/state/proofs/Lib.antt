@@ -1,0 +1,7 @@
+pub mod Sets
+pub mod Laws
+pub mod Making
+pub mod Walks
+pub mod Scopes
+pub mod Ends
+pub mod Slots

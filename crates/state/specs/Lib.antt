@@ -1,0 +1,4 @@
+pub mod Effect
+pub mod Words
+pub mod Represents
+pub mod Post
