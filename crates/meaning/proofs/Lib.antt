@@ -9,3 +9,4 @@ pub mod Size
 pub mod Whole
 pub mod Needed
 pub mod TwoOrders
+pub mod Examples

@@ -9,3 +9,4 @@ pub mod Module
 pub mod Promise
 pub mod JoiningOrder
 pub mod BenchSheet
+pub mod Examples

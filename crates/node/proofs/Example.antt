@@ -2,24 +2,26 @@
 -- Its layout, names and items, and the faults of some shorter files, by computation. Assumes nothing.
 use Prim.Native.Nat.{ℕ}
 use mathlib.Core.Path.{_≡_, refl}
-use mathlib.Core.List.{List, [], _∷_, _++_}
+use mathlib.Core.List.{List, [], _∷_, _++_, map}
 use mathlib.Core.Option.{some}
 use lib.ListN.{length, take}
 use Rattle.node.specs.Bytes.{halfAt, wordAt}
 use Rattle.node.specs.Shape.{shapeOf, dueIn, isDone, mayStand, stateAfter, allowed}
-use Rattle.node.specs.Names.{stands, chain, namesEnd, namePlaces, nameBytes, namesOf, nameCount, sameBytes, isAmong, indexOf, numberOf, repeatIn, repeatedName, nameRefusal, itemPlaces}
+use Rattle.node.specs.Names.{stands, chain, namesEnd, namePlaces, nameBytes, namesOf, nameCount, sameBytes, isAmong, indexOf, numberOf, repeatIn, repeatedName, nameRefusal, itemPlaces, itemBytes, itemsOf}
 use Rattle.node.specs.Layout.{isBad, headAt, listAt, recordAt, layoutOf, layoutRefusal}
+use Rattle.node.specs.Tree.{location, nameType, noValue, Item, globalDeclaration}
+use Rattle.node.specs.Record.{recordsWith, recordsAt, toType, itemTree, slotPlaces, itemSlotPlaces}
 use Rattle.node.specs.declared.names.Repeated.the-variants.{Nowhere}
 use Rattle.node.specs.declared.layout.Layout.the-variants.{Good}
 
 -- a record's head: length, kind, file 0, line, column
-abbrev head : (len kind line column : ℕ) → List ℕ
+abbrev pub head : (len kind line column : ℕ) → List ℕ
 head l k n c = l ∷ 0 ∷ 0 ∷ 0 ∷ k ∷ 0 ∷ 0 ∷ 0 ∷ n ∷ 0 ∷ 0 ∷ 0 ∷ c ∷ 0 ∷ 0 ∷ 0 ∷ []
 
-abbrev word : ℕ → List ℕ
+abbrev pub word : ℕ → List ℕ
 word n = n ∷ 0 ∷ 0 ∷ 0 ∷ []
 
-abbrev example : List ℕ
+abbrev pub example : List ℕ
 example =
     head 112 1 0 0
     ++ head 52 2 0 0
@@ -44,3 +46,9 @@ twice = head 64 1 0 0 ++ head 48 2 0 0 ++ head 16 3 0 0 ++ head 16 3 0 0
 repeated : (layoutOf twice ≡ Good) × (nameRefusal (repeatedName twice) ≡ some (4, 48))
 unfolding twice halfAt wordAt shapeOf dueIn isDone mayStand stateAfter allowed stands chain namesEnd namePlaces nameBytes namesOf nameCount sameBytes isAmong indexOf numberOf repeatIn repeatedName itemPlaces isBad headAt listAt recordAt layoutOf nameRefusal
 repeated = (refl, refl)
+
+-- the tree of its item, and the place of its slot from the item's start
+tree : (map itemTree (itemsOf example) ≡ globalDeclaration (location 0 0 3 1) 0 (nameType (location 20 0 3 8) 1) noValue ∷ [])
+    × (map itemSlotPlaces (itemsOf example) ≡ (36 ∷ []) ∷ [])
+unfolding halfAt wordAt shapeOf dueIn stands chain namesEnd itemPlaces itemBytes itemsOf recordsWith recordsAt toType itemTree slotPlaces itemSlotPlaces
+tree = (refl, refl)

@@ -7,3 +7,5 @@ pub mod Parts
 pub mod NumberLaws
 pub mod Decode
 pub mod TypeTrees
+pub mod ExpressionTrees
+pub mod Statements

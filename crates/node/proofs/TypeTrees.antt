@@ -31,7 +31,7 @@ node-of s d at end c k f e =
     ∙ ap (λ (x : ℕ). recordThen (headOf x s at) (bytesAt s at) (insideOf x s d at) (recordsAt s d (stopAt s at) end)) e
 
 -- a record of a known kind by itself
-own-node : (s : List ℕ) (d at end c k : ℕ) → FineRecord s d at end c → kindAt s at ≡ k
+pub own-node : (s : List ℕ) (d at end c k : ℕ) → FineRecord s d at end c → kindAt s at ≡ k
     → recordsAt s d at (stopAt s at) ≡ recordThen (headOf k s at) (bytesAt s at) (insideOf k s d at) noRecords
 own-node s d at end c k f e =
     node-of s d at (stopAt s at) c k (fine-own s d at end c f) e
@@ -55,7 +55,7 @@ pub record TypeRoom (s : List ℕ) (d at fields : ℕ) : Type 0 where
   pub ends : stopAt s at ≤ length s
   pub few : length s ≤ maxBytes
 
-room : (s : List ℕ) (d at end c k start stop : ℕ) → Opened s d at end c k start stop → TypeRoom s d at (shapeOf k .fields)
+pub room : (s : List ℕ) (d at end c k start stop : ℕ) → Opened s d at end c k start stop → TypeRoom s d at (shapeOf k .fields)
 room s d at end c k start stop o =
     record { deep = o .deep; head = omega (arith, o .head, o .body, o .stops); ends = omega (arith, o .stops, o .room, o .ends); few = o .few }
 
