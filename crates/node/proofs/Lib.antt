@@ -9,3 +9,4 @@ pub mod Decode
 pub mod TypeTrees
 pub mod ExpressionTrees
 pub mod Statements
+pub mod ItemTrees

@@ -292,3 +292,14 @@ statementAt s d at = firstStatement (toStatements (recordsAt s d at (stopAt s at
 
 abbrev pub statementsAt : List ℕ → (depth from end : ℕ) → Statement
 statementsAt s d from end = statementList (toStatements (recordsAt s d from end))
+
+-- The parameters of a function and its body, among the records from one place to another
+abbrev pub parametersAt : List ℕ → (depth from end : ℕ) → List Parameter
+parametersAt s d from end = toParameters (recordsAt s d from end)
+
+abbrev pub bodyAt : List ℕ → (depth from end : ℕ) → Option Statement
+bodyAt s d from end = toBody (recordsAt s d from end)
+
+-- An item by its place
+abbrev pub itemTreeAt : List ℕ → (depth at : ℕ) → Item
+itemTreeAt s d at = toItem (recordsAt s d at (stopAt s at))

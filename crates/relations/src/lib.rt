@@ -66,7 +66,7 @@ pub fn types_are_assignable(rows: &[u32], count: u32, target: u32, source: u32) 
 }
 
 // Whether a kind is one of the direct types with reinterpretation.
-fn is_integral(kind: u32) -> bool
+pub fn is_integral(kind: u32) -> bool
     ensures { λ r. ⌜ r ≡ isIntegralKind kind ⌝ }
 {
     if kind == types::U16 {
