@@ -1,0 +1,4 @@
+pub mod Laws
+pub mod Found
+pub mod Exits
+pub mod Meaning

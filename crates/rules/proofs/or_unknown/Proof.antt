@@ -1,0 +1,12 @@
+use Rattle.rules.proofs.Found as found
+use Rattle.rules.proofs.or_unknown.Statement.{statement}
+use Rattle.rules.proofs.or_unknown.Tie as tie
+
+returns : tie.Need-returns
+returns c = search found.or-none
+
+returns-2 : tie.Need-returns-2
+returns-2 c = search found.or-own
+
+pub or-unknown-spec : {M : Type 1} → statement M
+or-unknown-spec = tie.close (tie.spec returns returns-2)

@@ -1,0 +1,425 @@
+// What each kind of expression adds once its parts are typed: its type and its errors. No slot is stored here.
+use fallible::Error;
+use literal::Parsed;
+use node::bytes::half;
+use node::bytes::length_at;
+use node::bytes::word;
+use state::ARGUMENT;
+use state::GLOBAL;
+use state::LOCAL;
+use state::State;
+use state::Typed;
+use types::Row;
+ghost use mathlib.Core.Path.{_≡_};
+ghost use Prim.Native.Nat.{_+_, _*_, _≤_};
+ghost use lib.ListN.{length};
+ghost use Rattle.types.specs.Ty.{pointerKind, structKind};
+ghost use Rattle.types.specs.Table.{unfolded};
+ghost use Rattle.relations.specs.Entry.{OneType, TwoTypes};
+ghost use Rattle.node.specs.Bytes.{wordAt};
+ghost use Rattle.node.specs.Layout.{stopAt};
+ghost use Rattle.meaning.specs.Expression.{partOf, computes as computing};
+ghost use Rattle.meaning.specs.Promise.{workWidth};
+ghost use Rattle.state.specs.Represents.{Shows};
+ghost use Rattle.rules.specs.Words.{errorAt, orUnknownRow, resolvedWord};
+ghost use Rattle.rules.specs.Rules.{ReportedUnless, Identifier, Integer, Unary, Binary, Arithmetic, Cast, CheckAssignable};
+
+// The kinds of the records of operators.
+const INDEX: u32 = 37;
+
+const POINTER_TAKE: u32 = 39;
+
+const POINTER_DEREFERENCE: u32 = 40;
+
+const FIELD_ACCESS: u32 = 41;
+
+const BITWISE_NOT: u32 = 42;
+
+const BOOLEAN_AND: u32 = 44;
+
+const ARITHMETIC: u32 = 45;
+
+// The operator that an error names at a comparison.
+const COMPARISON_OPERATOR: u32 = 9;
+
+// An error at the record at `at`.
+pub fn error_at(s: &[u8], at: usize, kind: u32, first: u32, second: u32, third: u32) -> Error
+    requires { ⌜ at + 16 ≤ length (now s) ⌝ }
+    ensures { λ r. ⌜ r ≡ errorAt (now (s .entry)) at kind first second third ⌝ }
+{
+    Error {
+        kind,
+        file: half(s, at + 6),
+        line: word(s, at + 8),
+        column: word(s, at + 12),
+        first,
+        second,
+        third,
+    }
+}
+
+// Reports an error at the record at `at`, unless a test holds.
+pub fn report_unless(
+    holds: bool,
+    s: &[u8],
+    at: usize,
+    kind: u32,
+    first: u32,
+    second: u32,
+    third: u32,
+    errors: &mut [u32],
+    state: State,
+) -> State
+    requires { ⌜ at + 16 ≤ length (now s) ⌝ }
+    ensures { λ r. ⌜ ReportedUnless holds (errorAt (now (s .entry)) at kind first second third) (now (errors .entry)) state (now (errors .exit)) r ⌝ }
+{
+    if holds {
+        return state;
+    }
+    let error = error_at(s, at, kind, first, second, third);
+    state::report(errors, state, error)
+}
+
+// The row that was found, or Unknown.
+fn or_unknown(row: u32) -> u32
+    ensures { λ r. ⌜ r ≡ orUnknownRow row ⌝ }
+{
+    if row == 0 {
+        return types::UNKNOWN;
+    }
+    row
+}
+
+// What stands first in a type of this kind, or Unknown.
+pub fn part_of(rows: &[u32], count: u32, kind: u32, ty: u32) -> u32
+    requires { ⌜ OneType (now rows) count ty × (pointerKind ≤ kind) × (kind ≡ structKind → ⊥) ⌝ }
+    ensures { λ r. ⌜ Shows (now (rows .entry)) count r (partOf kind (unfolded (now (rows .entry)) ty)) ⌝ }
+{
+    if types::kind(rows, count, ty) == kind {
+        return types::part(rows, count, ty);
+    }
+    types::UNKNOWN
+}
+
+// The working word of a local, then of an argument, then of a global; 0 if there is none.
+fn resolve_identifier(work: &[u32], name: u32) -> u32
+    requires { ⌜ workWidth * (name + 1) ≤ length (now work) ⌝ }
+    ensures { λ r. ⌜ r ≡ resolvedWord (now (work .entry)) name ⌝ }
+{
+    let local = state::word_of(work, name, LOCAL);
+    if local != 0 {
+        return local;
+    }
+    let argument = state::word_of(work, name, ARGUMENT);
+    if argument != 0 {
+        return argument;
+    }
+    state::word_of(work, name, GLOBAL)
+}
+
+// An identifier.
+pub fn identifier(s: &[u8], work: &[u32], at: usize, errors: &mut [u32], state: State) -> Typed
+    requires { ⌜ at + 24 ≤ length (now s) ⌝ }
+    requires { ⌜ workWidth * (wordAt (now s) (at + 20) + 1) ≤ length (now work) ⌝ }
+    ensures { λ r. ⌜ Identifier (now (s .entry)) (now (work .entry)) at (now (errors .entry)) state (now (errors .exit)) r ⌝ }
+{
+    let name = word(s, at + 20);
+    let row = resolve_identifier(work, name);
+    let next = report_unless(row != 0, s, at, 10, name, 0, 0, errors, state);
+    Typed {
+        ty: or_unknown(row),
+        state: next,
+    }
+}
+
+// An integer literal: u16, even where it is out of range.
+pub fn integer(s: &[u8], at: usize, errors: &mut [u32], state: State) -> Typed
+    requires { ⌜ (at + 24 ≤ stopAt (now s) at) × (stopAt (now s) at ≤ length (now s)) ⌝ }
+    ensures { λ r. ⌜ Integer (now (s .entry)) at (now (errors .entry)) state (now (errors .exit)) r ⌝ }
+{
+    let base = word(s, at + 20);
+    let start = at + 24;
+    let stop = at + length_at(s, at);
+    let parsed = literal::from_str_radix(&s[start..stop], base);
+    match parsed {
+        Parsed::Value(_) => Typed {
+            ty: types::U16,
+            state,
+        },
+        Parsed::Invalid => {
+            let error = error_at(s, at, 23, 0, 0, 0);
+            let next = state::report(errors, state, error);
+            Typed {
+                ty: types::U16,
+                state: next,
+            }
+        }
+    }
+}
+
+// `&e`
+fn pointer_take(
+    s: &[u8],
+    at: usize,
+    ty: u32,
+    errors: &[u32],
+    rows: &mut [u32],
+    state: State,
+) -> Typed
+    requires { ⌜ OneType (now rows) (state .rows) ty ⌝ }
+    ensures { λ r. ⌜ Unary 39 (now (s .entry)) at ty (now (rows .entry)) (now (errors .entry)) state (now (rows .exit)) (now (errors .entry)) r ⌝ }
+{
+    state::make(rows, state, Row::Pointer(ty))
+}
+
+// `*e`
+fn dereference(
+    s: &[u8],
+    at: usize,
+    ty: u32,
+    errors: &mut [u32],
+    rows: &[u32],
+    state: State,
+) -> Typed
+    requires { ⌜ (at + 24 ≤ length (now s)) × OneType (now rows) (state .rows) ty ⌝ }
+    ensures { λ r. ⌜ Unary 40 (now (s .entry)) at ty (now (rows .entry)) (now (errors .entry)) state (now (rows .entry)) (now (errors .exit)) r ⌝ }
+{
+    let holds = types::kind(rows, state.rows, ty) == types::POINTER;
+    let next = report_unless(holds, s, at, 16, ty, 0, 0, errors, state);
+    Typed {
+        ty: part_of(rows, state.rows, types::POINTER, ty),
+        state: next,
+    }
+}
+
+// `e.name`
+fn field_access(
+    s: &[u8],
+    at: usize,
+    ty: u32,
+    errors: &mut [u32],
+    rows: &[u32],
+    state: State,
+) -> Typed
+    requires { ⌜ (at + 24 ≤ length (now s)) × OneType (now rows) (state .rows) ty ⌝ }
+    ensures { λ r. ⌜ Unary 41 (now (s .entry)) at ty (now (rows .entry)) (now (errors .entry)) state (now (rows .entry)) (now (errors .exit)) r ⌝ }
+{
+    let name = word(s, at + 20);
+    let bare = types::desugar(rows, state.rows, ty);
+    if types::kind(rows, state.rows, bare) != types::STRUCT {
+        let error = error_at(s, at, 17, ty, 0, 0);
+        let told = state::report(errors, state, error);
+        return Typed {
+            ty: types::UNKNOWN,
+            state: told,
+        };
+    }
+    let field = types::field_named(rows, state.rows, bare, name);
+    let next = report_unless(field != 0, s, at, 18, ty, name, 0, errors, state);
+    Typed {
+        ty: or_unknown(field),
+        state: next,
+    }
+}
+
+// `~e`
+fn bitwise_not(
+    s: &[u8],
+    at: usize,
+    ty: u32,
+    errors: &mut [u32],
+    rows: &[u32],
+    state: State,
+) -> Typed
+    requires { ⌜ (at + 24 ≤ length (now s)) × OneType (now rows) (state .rows) ty ⌝ }
+    ensures { λ r. ⌜ Unary 42 (now (s .entry)) at ty (now (rows .entry)) (now (errors .entry)) state (now (rows .entry)) (now (errors .exit)) r ⌝ }
+{
+    let holds = relations::is_integral(types::kind(rows, state.rows, ty));
+    let next = report_unless(holds, s, at, 19, ty, 0, 0, errors, state);
+    Typed { ty, state: next }
+}
+
+// `!e`
+fn boolean_not(
+    s: &[u8],
+    at: usize,
+    ty: u32,
+    errors: &mut [u32],
+    rows: &[u32],
+    state: State,
+) -> Typed
+    requires { ⌜ (at + 24 ≤ length (now s)) × OneType (now rows) (state .rows) ty ⌝ }
+    ensures { λ r. ⌜ Unary 43 (now (s .entry)) at ty (now (rows .entry)) (now (errors .entry)) state (now (rows .entry)) (now (errors .exit)) r ⌝ }
+{
+    let holds = types::kind(rows, state.rows, ty) == types::BOOL;
+    let next = report_unless(holds, s, at, 20, ty, 0, 0, errors, state);
+    Typed { ty, state: next }
+}
+
+// An operator on an operand of the type row `ty`.
+pub fn unary(
+    kind: u32,
+    s: &[u8],
+    at: usize,
+    ty: u32,
+    errors: &mut [u32],
+    rows: &mut [u32],
+    state: State,
+) -> Typed
+    requires { ⌜ (at + 24 ≤ length (now s)) × OneType (now rows) (state .rows) ty ⌝ }
+    ensures { λ r. ⌜ Unary kind (now (s .entry)) at ty (now (rows .entry)) (now (errors .entry)) state (now (rows .exit)) (now (errors .exit)) r ⌝ }
+{
+    match kind {
+        POINTER_TAKE => pointer_take(s, at, ty, errors, rows, state),
+        POINTER_DEREFERENCE => dereference(s, at, ty, errors, rows, state),
+        FIELD_ACCESS => field_access(s, at, ty, errors, rows, state),
+        BITWISE_NOT => bitwise_not(s, at, ty, errors, rows, state),
+        _ => boolean_not(s, at, ty, errors, rows, state),
+    }
+}
+
+// `left[right]`; the right stands at `place`.
+fn index(
+    s: &[u8],
+    at: usize,
+    left: u32,
+    place: usize,
+    right: u32,
+    errors: &mut [u32],
+    rows: &[u32],
+    state: State,
+) -> Typed
+    requires { ⌜ (at + 24 ≤ length (now s)) × (place + 16 ≤ length (now s)) × TwoTypes (now rows) (state .rows) left right ⌝ }
+    ensures { λ r. ⌜ Binary 37 (now (s .entry)) at left place right (now (rows .entry)) (now (errors .entry)) state (now (errors .exit)) r ⌝ }
+{
+    let holds = types::kind(rows, state.rows, right) == types::U16;
+    let next = report_unless(holds, s, place, 14, right, 0, 0, errors, state);
+    Typed {
+        ty: part_of(rows, state.rows, types::ARRAY, left),
+        state: next,
+    }
+}
+
+// `left && right`
+fn boolean_and(
+    s: &[u8],
+    at: usize,
+    left: u32,
+    place: usize,
+    right: u32,
+    errors: &mut [u32],
+    rows: &[u32],
+    state: State,
+) -> Typed
+    requires { ⌜ (at + 24 ≤ length (now s)) × (place + 16 ≤ length (now s)) × TwoTypes (now rows) (state .rows) left right ⌝ }
+    ensures { λ r. ⌜ Binary 44 (now (s .entry)) at left place right (now (rows .entry)) (now (errors .entry)) state (now (errors .exit)) r ⌝ }
+{
+    let left_holds = types::kind(rows, state.rows, left) == types::BOOL;
+    let right_holds = types::kind(rows, state.rows, right) == types::BOOL;
+    let next = report_unless(left_holds, s, at, 21, left, 0, 0, errors, state);
+    let last = report_unless(right_holds, s, at, 22, right, 0, 0, errors, next);
+    Typed {
+        ty: left,
+        state: last,
+    }
+}
+
+// Whether arithmetic is defined on two desugared types: equal integers, or pointer then integer.
+fn computes(rows: &[u32], count: u32, left: u32, right: u32) -> bool
+    requires { ⌜ TwoTypes (now rows) count left right ⌝ }
+    ensures { λ r. ⌜ r ≡ computing (unfolded (now (rows .entry)) left) (unfolded (now (rows .entry)) right) ⌝ }
+{
+    let kind = types::kind(rows, count, left);
+    if relations::is_integral(kind) {
+        return left == right;
+    }
+    if kind != types::POINTER {
+        return false;
+    }
+    relations::is_integral(types::kind(rows, count, right))
+}
+
+// Arithmetic: the left, desugared.
+fn arithmetic(
+    s: &[u8],
+    at: usize,
+    operator: u32,
+    left: u32,
+    right: u32,
+    errors: &mut [u32],
+    rows: &[u32],
+    state: State,
+) -> Typed
+    requires { ⌜ (at + 24 ≤ length (now s)) × TwoTypes (now rows) (state .rows) left right ⌝ }
+    ensures { λ r. ⌜ Arithmetic (now (s .entry)) at operator left right (now (rows .entry)) (now (errors .entry)) state (now (errors .exit)) r ⌝ }
+{
+    let l = types::desugar(rows, state.rows, left);
+    let r = types::desugar(rows, state.rows, right);
+    let holds = computes(rows, state.rows, l, r);
+    let next = report_unless(holds, s, at, 24, operator, l, r, errors, state);
+    Typed { ty: l, state: next }
+}
+
+// An operator on operands of the type rows `left` and `right`; the right stands at `place`.
+pub fn binary(
+    kind: u32,
+    s: &[u8],
+    at: usize,
+    left: u32,
+    place: usize,
+    right: u32,
+    errors: &mut [u32],
+    rows: &[u32],
+    state: State,
+) -> Typed
+    requires { ⌜ (at + 24 ≤ length (now s)) × (place + 16 ≤ length (now s)) × TwoTypes (now rows) (state .rows) left right ⌝ }
+    ensures { λ r. ⌜ Binary kind (now (s .entry)) at left place right (now (rows .entry)) (now (errors .entry)) state (now (errors .exit)) r ⌝ }
+{
+    match kind {
+        INDEX => index(s, at, left, place, right, errors, rows, state),
+        BOOLEAN_AND => boolean_and(s, at, left, place, right, errors, rows, state),
+        ARITHMETIC => arithmetic(s, at, word(s, at + 20), left, right, errors, rows, state),
+        _ => {
+            let compared = arithmetic(s, at, COMPARISON_OPERATOR, left, right, errors, rows, state);
+            let next = compared.state;
+            Typed {
+                ty: types::BOOL,
+                state: next,
+            }
+        }
+    }
+}
+
+// `source as target`
+pub fn cast(
+    s: &[u8],
+    at: usize,
+    source: u32,
+    target: u32,
+    errors: &mut [u32],
+    rows: &[u32],
+    state: State,
+) -> State
+    requires { ⌜ (at + 16 ≤ length (now s)) × TwoTypes (now rows) (state .rows) source target ⌝ }
+    ensures { λ r. ⌜ Cast (now (s .entry)) at source target (now (rows .entry)) (now (errors .entry)) state (now (errors .exit)) r ⌝ }
+{
+    let holds = relations::is_castable_to(rows, state.rows, source, target);
+    report_unless(holds, s, at, 15, source, target, 0, errors, state)
+}
+
+// A value of the type row `source` for a place of the type row `target`, at the record at `at`.
+pub fn check_types_are_assignable(
+    s: &[u8],
+    at: usize,
+    target: u32,
+    source: u32,
+    errors: &mut [u32],
+    rows: &[u32],
+    state: State,
+) -> State
+    requires { ⌜ (at + 16 ≤ length (now s)) × TwoTypes (now rows) (state .rows) target source ⌝ }
+    ensures { λ r. ⌜ CheckAssignable (now (s .entry)) at target source (now (rows .entry)) (now (errors .entry)) state (now (errors .exit)) r ⌝ }
+{
+    let holds = relations::types_are_assignable(rows, state.rows, target, source);
+    report_unless(holds, s, at, 8, target, source, 0, errors, state)
+}
