@@ -1,0 +1,570 @@
+-- `convert_node_type`, `convert_fields` and the functions of the kinds with parts call each other with the depth falling; in a list the bytes left fall.
+-- Assumes nothing.
+use Rattle.convert.proofs.Laws as laws
+use Rattle.convert.proofs.Heads as heads
+use mathlib.Core.Path.{sym, _∙_}
+use native.Mathlib.Omega.{arith}
+use borrow.Author.Needs.{needs}
+use Prim.Native.Nat.{ℕ, _<_, _+_, _-_, _*_}
+use borrow.Fn.Kinds.{In}
+use borrow.Fn.PlainCycle.{Measures, is, falls, and}
+use Rattle.convert.proofs.convert_array.Reads as convert-array
+use Rattle.convert.proofs.convert_array.Kinds as convert-array-kinds
+use Rattle.convert.proofs.+convert_array+convert_fields+convert_node_type+convert_pointer+convert_struct.Lts-convert_array as convert-array-lts
+use Rattle.convert.proofs.convert_fields.Reads as convert-fields
+use Rattle.convert.proofs.convert_fields.Kinds as convert-fields-kinds
+use Rattle.convert.proofs.+convert_array+convert_fields+convert_node_type+convert_pointer+convert_struct.Lts-convert_fields as convert-fields-lts
+use Rattle.convert.proofs.convert_node_type.Reads as convert-node-type
+use Rattle.convert.proofs.convert_node_type.Kinds as convert-node-type-kinds
+use Rattle.convert.proofs.+convert_array+convert_fields+convert_node_type+convert_pointer+convert_struct.Lts-convert_node_type as convert-node-type-lts
+use Rattle.convert.proofs.convert_pointer.Reads as convert-pointer
+use Rattle.convert.proofs.convert_pointer.Kinds as convert-pointer-kinds
+use Rattle.convert.proofs.+convert_array+convert_fields+convert_node_type+convert_pointer+convert_struct.Lts-convert_pointer as convert-pointer-lts
+use Rattle.convert.proofs.convert_struct.Reads as convert-struct
+use Rattle.convert.proofs.convert_struct.Kinds as convert-struct-kinds
+use Rattle.convert.proofs.+convert_array+convert_fields+convert_node_type+convert_pointer+convert_struct.Lts-convert_struct as convert-struct-lts
+use Rattle.convert.proofs.field_head.Reads as field-head-reads
+use Rattle.convert.proofs.named_type.Reads as named-type-reads
+use Rattle.convert.proofs.settle.Reads as settle-reads
+use Rattle.convert.proofs.settle_row.Reads as settle-row-reads
+use Rattle.convert.proofs.type_kind.Reads as type-kind-reads
+use Rattle.node.proofs.bytes.length_at.Reads as length-at-reads
+use Rattle.node.proofs.bytes.word.Reads as word-reads
+use Rattle.state.proofs.make.Reads as make-reads
+use Rattle.convert.proofs.+convert_array+convert_fields+convert_node_type+convert_pointer+convert_struct.{
+  statement,
+}
+use Rattle.convert.proofs.+convert_array+convert_fields+convert_node_type+convert_pointer+convert_struct.Tie.{
+  close,
+}
+
+abbrev μ-convert-array : Measures 5 convert-array-kinds.ps ℕ
+μ-convert-array κs a = a .1 .1 .1 .1 .0 * 131072
+
+abbrev μ-convert-fields : Measures 5 convert-fields-kinds.ps ℕ
+μ-convert-fields κs a = a .1 .1 .1 .1 .1 .0 * 131072 + (a .1 .1 .1 .1 .0 - a .1 .1 .1 .0) + 1
+
+abbrev μ-convert-node-type : Measures 5 convert-node-type-kinds.ps ℕ
+μ-convert-node-type κs a = a .1 .1 .1 .1 .0 * 131072 + 1
+
+abbrev μ-convert-pointer : Measures 5 convert-pointer-kinds.ps ℕ
+μ-convert-pointer κs a = a .1 .1 .1 .1 .0 * 131072
+
+abbrev μ-convert-struct : Measures 5 convert-struct-kinds.ps ℕ
+μ-convert-struct κs a = a .1 .1 .1 .1 .0 * 131072
+
+abbrev convert-array-at : ℕ → In 5 convert-array-kinds.ps
+convert-array-at t =
+    and 5 convert-array-kinds.ps (is 5 convert-array-kinds.ps μ-convert-array t) convert-array.Pre
+
+abbrev convert-array-below : ℕ → In 5 convert-array-kinds.ps
+convert-array-below t =
+    and
+    5
+    convert-array-kinds.ps
+    (falls 5 convert-array-kinds.ps _<_ μ-convert-array t)
+    convert-array.Pre
+
+abbrev convert-fields-at : ℕ → In 5 convert-fields-kinds.ps
+convert-fields-at t =
+    and
+    5
+    convert-fields-kinds.ps
+    (is 5 convert-fields-kinds.ps μ-convert-fields t)
+    convert-fields.Pre
+
+abbrev convert-fields-below : ℕ → In 5 convert-fields-kinds.ps
+convert-fields-below t =
+    and
+    5
+    convert-fields-kinds.ps
+    (falls 5 convert-fields-kinds.ps _<_ μ-convert-fields t)
+    convert-fields.Pre
+
+abbrev convert-node-type-at : ℕ → In 5 convert-node-type-kinds.ps
+convert-node-type-at t =
+    and
+    5
+    convert-node-type-kinds.ps
+    (is 5 convert-node-type-kinds.ps μ-convert-node-type t)
+    convert-node-type.Pre
+
+abbrev convert-node-type-below : ℕ → In 5 convert-node-type-kinds.ps
+convert-node-type-below t =
+    and
+    5
+    convert-node-type-kinds.ps
+    (falls 5 convert-node-type-kinds.ps _<_ μ-convert-node-type t)
+    convert-node-type.Pre
+
+abbrev convert-pointer-at : ℕ → In 5 convert-pointer-kinds.ps
+convert-pointer-at t =
+    and
+    5
+    convert-pointer-kinds.ps
+    (is 5 convert-pointer-kinds.ps μ-convert-pointer t)
+    convert-pointer.Pre
+
+abbrev convert-pointer-below : ℕ → In 5 convert-pointer-kinds.ps
+convert-pointer-below t =
+    and
+    5
+    convert-pointer-kinds.ps
+    (falls 5 convert-pointer-kinds.ps _<_ μ-convert-pointer t)
+    convert-pointer.Pre
+
+abbrev convert-struct-at : ℕ → In 5 convert-struct-kinds.ps
+convert-struct-at t =
+    and
+    5
+    convert-struct-kinds.ps
+    (is 5 convert-struct-kinds.ps μ-convert-struct t)
+    convert-struct.Pre
+
+abbrev convert-struct-below : ℕ → In 5 convert-struct-kinds.ps
+convert-struct-below t =
+    and
+    5
+    convert-struct-kinds.ps
+    (falls 5 convert-struct-kinds.ps _<_ μ-convert-struct t)
+    convert-struct.Pre
+
+abbrev convert-array-claims : ℕ → convert-array-lts.Claims
+convert-array-claims t = (
+  word-reads.Asked,
+  word-reads.Learnt,
+  convert-node-type-below t,
+  convert-node-type.Post,
+  settle-row-reads.Asked,
+  settle-row-reads.Learnt,
+)
+
+abbrev convert-fields-claims : ℕ → convert-fields-lts.Claims
+convert-fields-claims t = (
+  field-head-reads.Asked,
+  field-head-reads.Learnt,
+  convert-node-type-below t,
+  convert-node-type.Post,
+  convert-fields-below t,
+  convert-fields.Post,
+  make-reads.Asked,
+  make-reads.Learnt,
+)
+
+abbrev convert-node-type-claims : ℕ → convert-node-type-lts.Claims
+convert-node-type-claims t = (
+  type-kind-reads.Asked,
+  type-kind-reads.Learnt,
+  named-type-reads.Asked,
+  named-type-reads.Learnt,
+  settle-reads.Asked,
+  settle-reads.Learnt,
+  convert-pointer-below t,
+  convert-pointer.Post,
+  convert-array-below t,
+  convert-array.Post,
+  convert-struct-below t,
+  convert-struct.Post,
+)
+
+abbrev convert-pointer-claims : ℕ → convert-pointer-lts.Claims
+convert-pointer-claims t = (
+  convert-node-type-below t,
+  convert-node-type.Post,
+  settle-row-reads.Asked,
+  settle-row-reads.Learnt,
+)
+
+abbrev convert-struct-claims : ℕ → convert-struct-lts.Claims
+convert-struct-claims t = (
+  length-at-reads.Asked,
+  length-at-reads.Learnt,
+  convert-fields-below t,
+  convert-fields.Post,
+  settle-row-reads.Asked,
+  settle-row-reads.Learnt,
+)
+
+convert-array-add-word : (t : ℕ) → convert-array-lts.Need-add-word (convert-array-claims t) (convert-array-at t) convert-array.Post
+convert-array-add-word t c = omega (arith, heads.bounds _ _ _ (c .before .before .before .before .before .pre .1 .0))
+
+convert-array-word-requires : (t : ℕ) → convert-array-lts.Need-word-requires (convert-array-claims t) (convert-array-at t) convert-array.Post
+convert-array-word-requires t c κs = omega (arith, heads.size-room _ _ _ (c .before .before .before .before .before .pre .1 .0) (c .before .before .before .before .before .pre .1 .1 .0))
+
+convert-array-add-convert-node-type : (t : ℕ) → convert-array-lts.Need-add-convert-node-type (convert-array-claims t) (convert-array-at t) convert-array.Post
+convert-array-add-convert-node-type t c = omega (arith, heads.bounds _ _ _ (c .before .before .before .before .before .before .pre .1 .0))
+
+convert-array-sub-convert-node-type : (t : ℕ) → convert-array-lts.Need-sub-convert-node-type (convert-array-claims t) (convert-array-at t) convert-array.Post
+convert-array-sub-convert-node-type t c = omega (arith, heads.bounds _ _ _ (c .before .before .before .before .before .before .pre .1 .0))
+
+convert-array-convert-node-type-requires :
+    (t : ℕ) → convert-array-lts.Need-convert-node-type-requires (
+      word-reads.Asked,
+      word-reads.Learnt,
+      convert-node-type-below t,
+      convert-node-type.Post,
+      settle-row-reads.Asked,
+      settle-row-reads.Learnt,
+    ) (convert-array-at t) convert-array.Post
+convert-array-convert-node-type-requires t c κs = (omega (arith, heads.bounds _ _ _ (c .before .before .before .before .before .before .before .before .before .pre .1 .0)), (heads.element-fine _ _ _ (c .before .before .before .before .before .before .before .before .before .pre .1 .0) (c .before .before .before .before .before .before .before .before .before .pre .1 .1 .0), c .before .before .before .before .before .before .before .before .before .pre .1 .1 .1))
+
+convert-array-settle-row-requires : (t : ℕ) → convert-array-lts.Need-settle-row-requires (convert-array-claims t) (convert-array-at t) convert-array.Post
+convert-array-settle-row-requires t c κs = (omega (arith, heads.bounds _ _ _ (c .before .before .before .before .before .before .before .before .before .before .before .before .before .before .before .before .before .before .before .pre .1 .0), c .before .before .before .before .before .before .before .before .before .before .before .before .before .before .before .before .before .before .before .pre .1 .1 .1 .long, c .before .before .before .before .before .before .before .before .before .convert-node-type .ensures .walked .walked .frame .long), (c .before .before .before .before .before .before .before .before .before .convert-node-type .ensures .walked .walked .grew .good .table, c .before .before .before .before .before .before .before .before .before .convert-node-type .ensures .walked .is))
+
+convert-array-same-length : (t : ℕ) → convert-array-lts.Need-same-length (convert-array-claims t) (convert-array-at t) convert-array.Post
+convert-array-same-length t c = search needs
+
+convert-array-same-length-2 : (t : ℕ) → convert-array-lts.Need-same-length-2 (convert-array-claims t) (convert-array-at t) convert-array.Post
+convert-array-same-length-2 t c = search needs
+
+convert-array-same-length-3 : (t : ℕ) → convert-array-lts.Need-same-length-3 (convert-array-claims t) (convert-array-at t) convert-array.Post
+convert-array-same-length-3 t c = search needs
+
+convert-array-returns : (t : ℕ) → convert-array-lts.Need-returns (convert-array-claims t) (convert-array-at t) convert-array.Post
+convert-array-returns t c = laws.converted-array _ _ _ _ _ (c .before .before .before .before .before .before .before .before .before .before .before .before .before .before .before .before .before .before .before .before .before .before .before .before .pre .1 .0) _ _ _ _ _ (c .before .before .before .before .before .before .before .before .before .before .before .before .before .before .before .before .before .before .before .before .before .before .before .before .pre .1 .1 .1) _ _ _ (c .before .before .before .before .before .before .before .before .before .before .before .before .before .before .convert-node-type .result) (c .before .before .before .before .before .before .before .before .before .before .before .before .before .before .before .before .before .before .before .before .before .before .before .before .pre .1 .1 .0) _ (c .before .before .before .before .before .before .before .before .before .before .before .before .before .before .before .before .before .before .word .ensures) (c .before .before .before .before .before .before .before .before .before .before .before .before .before .before .convert-node-type .ensures) _ _ _ (c .before .before .before .before .settle-row .ensures)
+
+convert-fields-returns : (t : ℕ) → convert-fields-lts.Need-returns (convert-fields-claims t) (convert-fields-at t) convert-fields.Post
+convert-fields-returns t c = laws.fields-end _ _ _ _ _ _ (c .before .before .before .before .before .before .pre .1 .0) _ _ _ _ _ (c .before .before .before .before .before .before .pre .1 .1) (c .if1 .taken)
+
+convert-fields-field-head-requires : (t : ℕ) → convert-fields-lts.Need-field-head-requires (convert-fields-claims t) (convert-fields-at t) convert-fields.Post
+convert-fields-field-head-requires t c κs = (c .before .before .before .before .before .before .pre .1 .0, c .if1 .left)
+
+convert-fields-add-convert-node-type : (t : ℕ) → convert-fields-lts.Need-add-convert-node-type (convert-fields-claims t) (convert-fields-at t) convert-fields.Post
+convert-fields-add-convert-node-type t c = search needs
+
+convert-fields-sub-convert-node-type : (t : ℕ) → convert-fields-lts.Need-sub-convert-node-type (convert-fields-claims t) (convert-fields-at t) convert-fields.Post
+convert-fields-sub-convert-node-type t c = search needs
+
+convert-fields-convert-node-type-requires :
+    (t : ℕ) → convert-fields-lts.Need-convert-node-type-requires (
+      field-head-reads.Asked,
+      field-head-reads.Learnt,
+      convert-node-type-below t,
+      convert-node-type.Post,
+      convert-fields-below t,
+      convert-fields.Post,
+      make-reads.Asked,
+      make-reads.Learnt,
+    ) (convert-fields-at t) convert-fields.Post
+convert-fields-convert-node-type-requires t c κs = (omega arith, (heads.type-fine _ _ _ _ (c .before .before .before .before .before .before .before .before .before .before .pre .1 .0) (c .before .before .before .before .if1 .left), c .before .before .before .before .before .before .before .before .before .before .pre .1 .1))
+
+convert-fields-convert-fields-requires : (t : ℕ) → convert-fields-lts.Need-convert-fields-requires (convert-fields-claims t) (convert-fields-at t) convert-fields.Post
+convert-fields-convert-fields-requires t c κs = (omega (arith, c .before .before .before .before .before .before .before .before .before .before .before .before .before .before .before .before .before .before .before .before .before .pre .0, c .before .before .before .before .before .before .before .before .before .before .before .before .before .before .field-head .ensures), (heads.rest-fine _ _ _ _ (c .before .before .before .before .before .before .before .before .before .before .before .before .before .before .before .before .before .before .before .before .before .pre .1 .0) (c .before .before .before .before .before .before .before .before .before .before .before .before .before .before .before .if1 .left) _ (c .before .before .before .before .before .before .before .before .before .before .before .before .before .before .field-head .ensures .next), heads.ready-later (c .before .before .before .before .before .before .before .before .before .before .before .before .before .before .before .before .before .before .before .before .before .pre .1 .1) (c .before .before .before .before .before .before .before .before .before .before .convert-node-type .ensures .walked .walked .grew) (c .before .before .before .before .before .before .before .before .before .before .convert-node-type .ensures .walked .walked .frame .long)))
+
+convert-fields-make-requires : (t : ℕ) → convert-fields-lts.Need-make-requires (convert-fields-claims t) (convert-fields-at t) convert-fields.Post
+convert-fields-make-requires t c κs = laws.cell-ok _ _ _ _ _ _ (c .before .before .before .before .before .before .before .before .before .before .before .before .before .before .before .before .before .before .before .before .before .before .before .before .before .before .before .before .before .before .pre .1 .0) _ _ _ _ _ (c .before .before .before .before .before .before .before .before .before .before .before .before .before .before .before .before .before .before .before .before .before .before .before .before .before .before .before .before .before .before .pre .1 .1) (c .before .before .before .before .before .before .before .before .before .before .before .before .before .before .before .before .before .before .before .before .before .before .before .before .if1 .left) _ (c .before .before .before .before .before .before .before .before .before .before .before .before .before .before .before .before .before .before .before .before .before .before .before .field-head .ensures) _ _ _ (c .before .before .before .before .before .before .before .before .before .before .before .before .before .before .before .before .before .before .before .convert-node-type .result) (c .before .before .before .before .before .before .before .before .before .before .before .before .before .before .before .before .before .before .before .convert-node-type .ensures) _ _ _ (c .before .before .before .before .before .before .before .before .convert-fields .result) (c .before .before .before .before .before .before .before .before .convert-fields .ensures)
+
+convert-fields-same-length : (t : ℕ) → convert-fields-lts.Need-same-length (convert-fields-claims t) (convert-fields-at t) convert-fields.Post
+convert-fields-same-length t c = search needs
+
+convert-fields-same-length-2 : (t : ℕ) → convert-fields-lts.Need-same-length-2 (convert-fields-claims t) (convert-fields-at t) convert-fields.Post
+convert-fields-same-length-2 t c = search needs
+
+convert-fields-same-length-3 : (t : ℕ) → convert-fields-lts.Need-same-length-3 (convert-fields-claims t) (convert-fields-at t) convert-fields.Post
+convert-fields-same-length-3 t c = search needs
+
+convert-fields-returns-2 : (t : ℕ) → convert-fields-lts.Need-returns-2 (convert-fields-claims t) (convert-fields-at t) convert-fields.Post
+convert-fields-returns-2 t c = laws.fields-cell _ _ _ _ _ _ (c .before .before .before .before .before .before .before .before .before .before .before .before .before .before .before .before .before .before .before .before .before .before .before .before .before .before .before .before .before .before .before .before .before .pre .1 .0) _ _ _ _ _ (c .before .before .before .before .before .before .before .before .before .before .before .before .before .before .before .before .before .before .before .before .before .before .before .before .before .before .before .before .before .before .before .before .before .pre .1 .1) (c .before .before .before .before .before .before .before .before .before .before .before .before .before .before .before .before .before .before .before .before .before .before .before .before .before .before .before .if1 .left) _ (c .before .before .before .before .before .before .before .before .before .before .before .before .before .before .before .before .before .before .before .before .before .before .before .before .before .before .field-head .ensures) _ _ _ (c .before .before .before .before .before .before .before .before .before .before .before .before .before .before .before .before .before .before .before .before .before .before .convert-node-type .result) (c .before .before .before .before .before .before .before .before .before .before .before .before .before .before .before .before .before .before .before .before .before .before .convert-node-type .ensures) _ _ _ (c .before .before .before .before .before .before .before .before .before .before .before .convert-fields .result) (c .before .before .before .before .before .before .before .before .before .before .before .convert-fields .ensures) _ _ (c .before .before .make .ensures)
+
+convert-node-type-type-kind-requires : (t : ℕ) → convert-node-type-lts.Need-type-kind-requires (convert-node-type-claims t) (convert-node-type-at t) convert-node-type.Post
+convert-node-type-type-kind-requires t c κs = c .before .before .before .before .before .pre .1 .0
+
+convert-node-type-named-type-requires : (t : ℕ) → convert-node-type-lts.Need-named-type-requires (convert-node-type-claims t) (convert-node-type-at t) convert-node-type.Post
+convert-node-type-named-type-requires t c κs = (heads.name-room _ _ _ (c .before .before .before .before .before .before .before .before .before .pre .1 .0) (sym (c .before .before .before .type-kind .ensures .is) ∙ c .before .before .match .keys1), (heads.name-known _ _ _ (c .before .before .before .before .before .before .before .before .before .pre .1 .0) (sym (c .before .before .before .type-kind .ensures .is) ∙ c .before .before .match .keys1), c .before .before .before .before .before .before .before .before .before .pre .1 .1 .wide))
+
+convert-node-type-settle-requires : (t : ℕ) → convert-node-type-lts.Need-settle-requires (convert-node-type-claims t) (convert-node-type-at t) convert-node-type.Post
+convert-node-type-settle-requires t c κs = omega (arith, c .before .before .before .before .before .before .before .type-kind .ensures, c .before .before .before .before .before .before .before .before .before .before .before .before .before .pre .1 .1 .long)
+
+convert-node-type-settle-requires-2 : (t : ℕ) → convert-node-type-lts.Need-settle-requires-2 (convert-node-type-claims t) (convert-node-type-at t) convert-node-type.Post
+convert-node-type-settle-requires-2 t c κs = omega (arith, c .before .before .type-kind .ensures, c .before .before .before .before .before .before .before .before .pre .1 .1 .long)
+
+convert-node-type-convert-pointer-requires :
+    (t : ℕ) → convert-node-type-lts.Need-convert-pointer-requires (
+      type-kind-reads.Asked,
+      type-kind-reads.Learnt,
+      named-type-reads.Asked,
+      named-type-reads.Learnt,
+      settle-reads.Asked,
+      settle-reads.Learnt,
+      convert-pointer-below t,
+      convert-pointer.Post,
+      convert-array-below t,
+      convert-array.Post,
+      convert-struct-below t,
+      convert-struct.Post,
+    ) (convert-node-type-at t) convert-node-type.Post
+convert-node-type-convert-pointer-requires t c κs = (omega arith, (c .before .before .before .before .before .before .before .before .before .before .pre .1 .0, (sym (c .before .before .before .before .type-kind .ensures .is) ∙ c .before .before .before .match .keys3, c .before .before .before .before .before .before .before .before .before .before .pre .1 .1)))
+
+convert-node-type-convert-array-requires :
+    (t : ℕ) → convert-node-type-lts.Need-convert-array-requires (
+      type-kind-reads.Asked,
+      type-kind-reads.Learnt,
+      named-type-reads.Asked,
+      named-type-reads.Learnt,
+      settle-reads.Asked,
+      settle-reads.Learnt,
+      convert-pointer-below t,
+      convert-pointer.Post,
+      convert-array-below t,
+      convert-array.Post,
+      convert-struct-below t,
+      convert-struct.Post,
+    ) (convert-node-type-at t) convert-node-type.Post
+convert-node-type-convert-array-requires t c κs = (omega arith, (c .before .before .before .before .before .before .before .before .before .before .pre .1 .0, (sym (c .before .before .before .before .type-kind .ensures .is) ∙ c .before .before .before .match .keys4, c .before .before .before .before .before .before .before .before .before .before .pre .1 .1)))
+
+convert-node-type-convert-struct-requires :
+    (t : ℕ) → convert-node-type-lts.Need-convert-struct-requires (
+      type-kind-reads.Asked,
+      type-kind-reads.Learnt,
+      named-type-reads.Asked,
+      named-type-reads.Learnt,
+      settle-reads.Asked,
+      settle-reads.Learnt,
+      convert-pointer-below t,
+      convert-pointer.Post,
+      convert-array-below t,
+      convert-array.Post,
+      convert-struct-below t,
+      convert-struct.Post,
+    ) (convert-node-type-at t) convert-node-type.Post
+convert-node-type-convert-struct-requires t c κs = (omega arith, (c .before .before .before .before .before .before .before .before .before .before .pre .1 .0, (heads.is-struct _ _ _ (c .before .before .before .before .before .before .before .before .before .before .pre .1 .0) _ (c .before .before .before .before .type-kind .ensures .is) (c .before .before .before .match .rest .0 .0 .0 .1) (c .before .before .before .match .rest .0 .0 .1) (c .before .before .before .match .rest .0 .1) (c .before .before .before .match .rest .1), c .before .before .before .before .before .before .before .before .before .before .pre .1 .1)))
+
+convert-node-type-same-length : (t : ℕ) → convert-node-type-lts.Need-same-length (convert-node-type-claims t) (convert-node-type-at t) convert-node-type.Post
+convert-node-type-same-length t c = search needs
+
+convert-node-type-same-length-2 : (t : ℕ) → convert-node-type-lts.Need-same-length-2 (convert-node-type-claims t) (convert-node-type-at t) convert-node-type.Post
+convert-node-type-same-length-2 t c = search needs
+
+convert-node-type-returns : (t : ℕ) → convert-node-type-lts.Need-returns (convert-node-type-claims t) (convert-node-type-at t) convert-node-type.Post
+convert-node-type-returns t c = laws.converted-name _ _ _ _ _ (c .before .before .before .before .before .before .before .before .before .before .before .before .before .before .before .before .pre .1 .0) _ _ _ _ _ (c .before .before .before .before .before .before .before .before .before .before .before .before .before .before .before .before .pre .1 .1) (sym (c .before .before .before .before .before .before .before .before .before .before .type-kind .ensures .is) ∙ c .before .before .before .before .before .before .before .before .before .match .keys1) _ _ _ (c .before .before .before .before .before .before .named-type .ensures) (c .before .before .settle .ensures)
+
+convert-node-type-same-length-3 : (t : ℕ) → convert-node-type-lts.Need-same-length-3 (convert-node-type-claims t) (convert-node-type-at t) convert-node-type.Post
+convert-node-type-same-length-3 t c = search needs
+
+convert-node-type-returns-2 : (t : ℕ) → convert-node-type-lts.Need-returns-2 (convert-node-type-claims t) (convert-node-type-at t) convert-node-type.Post
+convert-node-type-returns-2 t c = laws.converted-void _ _ _ _ _ (c .before .before .before .before .before .before .before .before .before .before .before .pre .1 .0) _ _ _ _ _ (c .before .before .before .before .before .before .before .before .before .before .before .pre .1 .1) (sym (c .before .before .before .before .before .type-kind .ensures .is) ∙ c .before .before .before .before .match .keys2) _ (c .before .before .settle2 .ensures)
+
+convert-node-type-same-length-4 : (t : ℕ) → convert-node-type-lts.Need-same-length-4 (convert-node-type-claims t) (convert-node-type-at t) convert-node-type.Post
+convert-node-type-same-length-4 t c = search needs
+
+convert-node-type-same-length-5 : (t : ℕ) → convert-node-type-lts.Need-same-length-5 (convert-node-type-claims t) (convert-node-type-at t) convert-node-type.Post
+convert-node-type-same-length-5 t c = search needs
+
+convert-node-type-same-length-6 : (t : ℕ) → convert-node-type-lts.Need-same-length-6 (convert-node-type-claims t) (convert-node-type-at t) convert-node-type.Post
+convert-node-type-same-length-6 t c = search needs
+
+convert-node-type-returns-3 : (t : ℕ) → convert-node-type-lts.Need-returns-3 (convert-node-type-claims t) (convert-node-type-at t) convert-node-type.Post
+convert-node-type-returns-3 t c = c .before .before .before .before .before .before .convert-pointer .ensures
+
+convert-node-type-same-length-7 : (t : ℕ) → convert-node-type-lts.Need-same-length-7 (convert-node-type-claims t) (convert-node-type-at t) convert-node-type.Post
+convert-node-type-same-length-7 t c = search needs
+
+convert-node-type-same-length-8 : (t : ℕ) → convert-node-type-lts.Need-same-length-8 (convert-node-type-claims t) (convert-node-type-at t) convert-node-type.Post
+convert-node-type-same-length-8 t c = search needs
+
+convert-node-type-same-length-9 : (t : ℕ) → convert-node-type-lts.Need-same-length-9 (convert-node-type-claims t) (convert-node-type-at t) convert-node-type.Post
+convert-node-type-same-length-9 t c = search needs
+
+convert-node-type-returns-4 : (t : ℕ) → convert-node-type-lts.Need-returns-4 (convert-node-type-claims t) (convert-node-type-at t) convert-node-type.Post
+convert-node-type-returns-4 t c = c .before .before .before .before .before .before .convert-array .ensures
+
+convert-node-type-same-length-10 : (t : ℕ) → convert-node-type-lts.Need-same-length-10 (convert-node-type-claims t) (convert-node-type-at t) convert-node-type.Post
+convert-node-type-same-length-10 t c = search needs
+
+convert-node-type-same-length-11 : (t : ℕ) → convert-node-type-lts.Need-same-length-11 (convert-node-type-claims t) (convert-node-type-at t) convert-node-type.Post
+convert-node-type-same-length-11 t c = search needs
+
+convert-node-type-same-length-12 : (t : ℕ) → convert-node-type-lts.Need-same-length-12 (convert-node-type-claims t) (convert-node-type-at t) convert-node-type.Post
+convert-node-type-same-length-12 t c = search needs
+
+convert-node-type-returns-5 : (t : ℕ) → convert-node-type-lts.Need-returns-5 (convert-node-type-claims t) (convert-node-type-at t) convert-node-type.Post
+convert-node-type-returns-5 t c = c .before .before .before .before .before .before .convert-struct .ensures
+
+convert-pointer-add-convert-node-type : (t : ℕ) → convert-pointer-lts.Need-add-convert-node-type (convert-pointer-claims t) (convert-pointer-at t) convert-pointer.Post
+convert-pointer-add-convert-node-type t c = omega (arith, heads.bounds _ _ _ (c .before .before .before .before .before .pre .1 .0))
+
+convert-pointer-sub-convert-node-type : (t : ℕ) → convert-pointer-lts.Need-sub-convert-node-type (convert-pointer-claims t) (convert-pointer-at t) convert-pointer.Post
+convert-pointer-sub-convert-node-type t c = omega (arith, heads.bounds _ _ _ (c .before .before .before .before .before .pre .1 .0))
+
+convert-pointer-convert-node-type-requires :
+    (t : ℕ) → convert-pointer-lts.Need-convert-node-type-requires (
+      convert-node-type-below t,
+      convert-node-type.Post,
+      settle-row-reads.Asked,
+      settle-row-reads.Learnt,
+    ) (convert-pointer-at t) convert-pointer.Post
+convert-pointer-convert-node-type-requires t c κs = (omega (arith, heads.bounds _ _ _ (c .before .before .before .before .before .before .before .before .pre .1 .0)), (heads.pointee-fine _ _ _ (c .before .before .before .before .before .before .before .before .pre .1 .0) (c .before .before .before .before .before .before .before .before .pre .1 .1 .0), c .before .before .before .before .before .before .before .before .pre .1 .1 .1))
+
+convert-pointer-settle-row-requires : (t : ℕ) → convert-pointer-lts.Need-settle-row-requires (convert-pointer-claims t) (convert-pointer-at t) convert-pointer.Post
+convert-pointer-settle-row-requires t c κs = (omega (arith, heads.bounds _ _ _ (c .before .before .before .before .before .before .before .before .before .before .before .before .before .before .before .before .before .before .pre .1 .0), c .before .before .before .before .before .before .before .before .before .before .before .before .before .before .before .before .before .before .pre .1 .1 .1 .long, c .before .before .before .before .before .before .before .before .before .convert-node-type .ensures .walked .walked .frame .long), (c .before .before .before .before .before .before .before .before .before .convert-node-type .ensures .walked .walked .grew .good .table, c .before .before .before .before .before .before .before .before .before .convert-node-type .ensures .walked .is))
+
+convert-pointer-same-length : (t : ℕ) → convert-pointer-lts.Need-same-length (convert-pointer-claims t) (convert-pointer-at t) convert-pointer.Post
+convert-pointer-same-length t c = search needs
+
+convert-pointer-same-length-2 : (t : ℕ) → convert-pointer-lts.Need-same-length-2 (convert-pointer-claims t) (convert-pointer-at t) convert-pointer.Post
+convert-pointer-same-length-2 t c = search needs
+
+convert-pointer-same-length-3 : (t : ℕ) → convert-pointer-lts.Need-same-length-3 (convert-pointer-claims t) (convert-pointer-at t) convert-pointer.Post
+convert-pointer-same-length-3 t c = search needs
+
+convert-pointer-returns : (t : ℕ) → convert-pointer-lts.Need-returns (convert-pointer-claims t) (convert-pointer-at t) convert-pointer.Post
+convert-pointer-returns t c = laws.converted-pointer _ _ _ _ _ (c .before .before .before .before .before .before .before .before .before .before .before .before .before .before .before .before .before .before .before .before .before .before .before .pre .1 .0) _ _ _ _ _ (c .before .before .before .before .before .before .before .before .before .before .before .before .before .before .before .before .before .before .before .before .before .before .before .pre .1 .1 .1) _ _ _ (c .before .before .before .before .before .before .before .before .before .before .before .before .before .before .convert-node-type .result) (c .before .before .before .before .before .before .before .before .before .before .before .before .before .before .before .before .before .before .before .before .before .before .before .pre .1 .1 .0) (c .before .before .before .before .before .before .before .before .before .before .before .before .before .before .convert-node-type .ensures) _ _ _ (c .before .before .before .before .settle-row .ensures)
+
+convert-struct-length-at-requires : (t : ℕ) → convert-struct-lts.Need-length-at-requires (convert-struct-claims t) (convert-struct-at t) convert-struct.Post
+convert-struct-length-at-requires t c κs = omega (arith, heads.bounds _ _ _ (c .before .before .before .before .before .pre .1 .0))
+
+convert-struct-add-stop : (t : ℕ) → convert-struct-lts.Need-add-stop (convert-struct-claims t) (convert-struct-at t) convert-struct.Post
+convert-struct-add-stop t c = omega (arith, heads.bounds _ _ _ (c .before .before .before .before .before .before .pre .1 .0), c .length-at .ensures)
+
+convert-struct-add-convert-fields : (t : ℕ) → convert-struct-lts.Need-add-convert-fields (convert-struct-claims t) (convert-struct-at t) convert-struct.Post
+convert-struct-add-convert-fields t c = omega (arith, heads.bounds _ _ _ (c .before .before .before .before .before .before .pre .1 .0))
+
+convert-struct-sub-convert-fields : (t : ℕ) → convert-struct-lts.Need-sub-convert-fields (convert-struct-claims t) (convert-struct-at t) convert-struct.Post
+convert-struct-sub-convert-fields t c = omega (arith, heads.bounds _ _ _ (c .before .before .before .before .before .before .pre .1 .0))
+
+convert-struct-convert-fields-requires : (t : ℕ) → convert-struct-lts.Need-convert-fields-requires (convert-struct-claims t) (convert-struct-at t) convert-struct.Post
+convert-struct-convert-fields-requires t c κs = (omega (arith, heads.bounds _ _ _ (c .before .before .before .before .before .before .before .before .before .pre .1 .0), c .before .before .before .length-at .ensures), (heads.fields-fine _ _ _ (c .before .before .before .before .before .before .before .before .before .pre .1 .0) (c .before .before .before .before .before .before .before .before .before .pre .1 .1 .0) _ (c .before .before .before .length-at .ensures), c .before .before .before .before .before .before .before .before .before .pre .1 .1 .1))
+
+convert-struct-settle-row-requires : (t : ℕ) → convert-struct-lts.Need-settle-row-requires (convert-struct-claims t) (convert-struct-at t) convert-struct.Post
+convert-struct-settle-row-requires t c κs = (omega (arith, heads.bounds _ _ _ (c .before .before .before .before .before .before .before .before .before .before .before .before .before .before .before .before .before .before .before .pre .1 .0), c .before .before .before .before .before .before .before .before .before .before .before .before .before .before .before .before .before .before .before .pre .1 .1 .1 .long, c .before .before .before .before .before .before .before .before .before .convert-fields .ensures .walked .frame .long), (c .before .before .before .before .before .before .before .before .before .convert-fields .ensures .walked .grew .good .table, c .before .before .before .before .before .before .before .before .before .convert-fields .ensures .is))
+
+convert-struct-same-length : (t : ℕ) → convert-struct-lts.Need-same-length (convert-struct-claims t) (convert-struct-at t) convert-struct.Post
+convert-struct-same-length t c = search needs
+
+convert-struct-same-length-2 : (t : ℕ) → convert-struct-lts.Need-same-length-2 (convert-struct-claims t) (convert-struct-at t) convert-struct.Post
+convert-struct-same-length-2 t c = search needs
+
+convert-struct-same-length-3 : (t : ℕ) → convert-struct-lts.Need-same-length-3 (convert-struct-claims t) (convert-struct-at t) convert-struct.Post
+convert-struct-same-length-3 t c = search needs
+
+convert-struct-returns : (t : ℕ) → convert-struct-lts.Need-returns (convert-struct-claims t) (convert-struct-at t) convert-struct.Post
+convert-struct-returns t c = laws.converted-struct _ _ _ _ _ (c .before .before .before .before .before .before .before .before .before .before .before .before .before .before .before .before .before .before .before .before .before .before .before .before .pre .1 .0) _ _ _ _ _ (c .before .before .before .before .before .before .before .before .before .before .before .before .before .before .before .before .before .before .before .before .before .before .before .before .pre .1 .1 .1) _ _ _ (c .before .before .before .before .before .before .before .before .before .before .before .before .before .before .convert-fields .result) (c .before .before .before .before .before .before .before .before .before .before .before .before .before .before .before .before .before .before .before .before .before .before .before .before .pre .1 .1 .0) _ (c .before .before .before .before .before .before .before .before .before .before .before .before .before .before .before .before .before .before .length-at .ensures) (c .before .before .before .before .before .before .before .before .before .before .before .before .before .before .convert-fields .ensures) _ _ _ (c .before .before .before .before .settle-row .ensures)
+
+pub +convert-array+convert-fields+convert-node-type+convert-pointer+convert-struct-spec :
+    {M : Type 1} → statement M
++convert-array+convert-fields+convert-node-type+convert-pointer+convert-struct-spec =
+    close
+    μ-convert-array
+    μ-convert-fields
+    μ-convert-node-type
+    μ-convert-pointer
+    μ-convert-struct
+    (λ t. convert-array-lts.spec (
+      word-reads.Asked,
+      word-reads.Learnt,
+      convert-node-type-below t,
+      convert-node-type.Post,
+      settle-row-reads.Asked,
+      settle-row-reads.Learnt,
+    )
+    (convert-array-at t)
+    convert-array.Post
+    (convert-array-add-word t)
+    (convert-array-word-requires t)
+    (convert-array-add-convert-node-type t)
+    (convert-array-sub-convert-node-type t)
+    (convert-array-convert-node-type-requires t)
+    (convert-array-settle-row-requires t)
+    (convert-array-same-length t)
+    (convert-array-same-length-2 t)
+    (convert-array-same-length-3 t)
+    (convert-array-returns t))
+    (λ t. convert-fields-lts.spec (
+      field-head-reads.Asked,
+      field-head-reads.Learnt,
+      convert-node-type-below t,
+      convert-node-type.Post,
+      convert-fields-below t,
+      convert-fields.Post,
+      make-reads.Asked,
+      make-reads.Learnt,
+    )
+    (convert-fields-at t)
+    convert-fields.Post
+    (convert-fields-returns t)
+    (convert-fields-field-head-requires t)
+    (convert-fields-add-convert-node-type t)
+    (convert-fields-sub-convert-node-type t)
+    (convert-fields-convert-node-type-requires t)
+    (convert-fields-convert-fields-requires t)
+    (convert-fields-make-requires t)
+    (convert-fields-same-length t)
+    (convert-fields-same-length-2 t)
+    (convert-fields-same-length-3 t)
+    (convert-fields-returns-2 t))
+    (λ t. convert-node-type-lts.spec (
+      type-kind-reads.Asked,
+      type-kind-reads.Learnt,
+      named-type-reads.Asked,
+      named-type-reads.Learnt,
+      settle-reads.Asked,
+      settle-reads.Learnt,
+      convert-pointer-below t,
+      convert-pointer.Post,
+      convert-array-below t,
+      convert-array.Post,
+      convert-struct-below t,
+      convert-struct.Post,
+    )
+    (convert-node-type-at t)
+    convert-node-type.Post
+    (convert-node-type-type-kind-requires t)
+    (convert-node-type-named-type-requires t)
+    (convert-node-type-settle-requires t)
+    (convert-node-type-settle-requires-2 t)
+    (convert-node-type-convert-pointer-requires t)
+    (convert-node-type-convert-array-requires t)
+    (convert-node-type-convert-struct-requires t)
+    (convert-node-type-same-length t)
+    (convert-node-type-same-length-2 t)
+    (convert-node-type-returns t)
+    (convert-node-type-same-length-3 t)
+    (convert-node-type-returns-2 t)
+    (convert-node-type-same-length-4 t)
+    (convert-node-type-same-length-5 t)
+    (convert-node-type-same-length-6 t)
+    (convert-node-type-returns-3 t)
+    (convert-node-type-same-length-7 t)
+    (convert-node-type-same-length-8 t)
+    (convert-node-type-same-length-9 t)
+    (convert-node-type-returns-4 t)
+    (convert-node-type-same-length-10 t)
+    (convert-node-type-same-length-11 t)
+    (convert-node-type-same-length-12 t)
+    (convert-node-type-returns-5 t))
+    (λ t. convert-pointer-lts.spec (
+      convert-node-type-below t,
+      convert-node-type.Post,
+      settle-row-reads.Asked,
+      settle-row-reads.Learnt,
+    )
+    (convert-pointer-at t)
+    convert-pointer.Post
+    (convert-pointer-add-convert-node-type t)
+    (convert-pointer-sub-convert-node-type t)
+    (convert-pointer-convert-node-type-requires t)
+    (convert-pointer-settle-row-requires t)
+    (convert-pointer-same-length t)
+    (convert-pointer-same-length-2 t)
+    (convert-pointer-same-length-3 t)
+    (convert-pointer-returns t))
+    λ t. convert-struct-lts.spec (
+      length-at-reads.Asked,
+      length-at-reads.Learnt,
+      convert-fields-below t,
+      convert-fields.Post,
+      settle-row-reads.Asked,
+      settle-row-reads.Learnt,
+    )
+    (convert-struct-at t)
+    convert-struct.Post
+    (convert-struct-length-at-requires t)
+    (convert-struct-add-stop t)
+    (convert-struct-add-convert-fields t)
+    (convert-struct-sub-convert-fields t)
+    (convert-struct-convert-fields-requires t)
+    (convert-struct-settle-row-requires t)
+    (convert-struct-same-length t)
+    (convert-struct-same-length-2 t)
+    (convert-struct-same-length-3 t)
+    (convert-struct-returns t)

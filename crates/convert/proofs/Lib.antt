@@ -1,0 +1,4 @@
+pub mod Visits
+pub mod Heads
+pub mod Leaves
+pub mod Laws
