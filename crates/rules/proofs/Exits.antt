@@ -34,7 +34,8 @@ use Rattle.state.specs.Represents.{Lent, lent, Grew, Shows, SpellsOperand, Typi
 use Rattle.state.specs.Post.{Reported, Makes, Walked}
 use Rattle.state.proofs.Laws.{typing-later}
 use Rattle.state.proofs.Walks.{typing-bool, typing-u16, walked-make, made-type}
-use Rattle.rules.specs.Words.{errorAt, orUnknownRow, resolvedWord}
+use Rattle.convert.specs.Post.{errorFor as errorAt}
+use Rattle.rules.specs.Words.{orUnknownRow, resolvedWord}
 use Rattle.rules.specs.Rules.{Operands, identifierErrors, One, Two, Checks, ReportedUnless, Identifier, Integer, digitsAt, Unary, Binary, Arithmetic, Cast, CheckAssignable}
 use Rattle.rules.proofs.Laws.{walked-unless, spells-at, checks-unless, checks-room, reported-always, checks-then, gives-checked, checks-row, reported-none, reported-one}
 use Rattle.rules.proofs.Found.{unknown-shown, found-test, found-shown, resolved-is, resolved-found}

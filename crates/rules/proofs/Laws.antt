@@ -17,7 +17,7 @@ use Rattle.state.specs.Represents.{Lent, lent, Good, Grew, Shows, SpellsOperand
 use Rattle.state.specs.Post.{Reported, Walked}
 use Rattle.state.proofs.Laws.{typing-later}
 use Rattle.state.proofs.Walks.{walked-none, walked-then, walked-report, walked-room}
-use Rattle.rules.specs.Words.{errorAt}
+use Rattle.convert.specs.Post.{errorFor as errorAt}
 use Rattle.rules.specs.Rules.{Gives, Checks, ReportedUnless}
 
 module _ {X : Type 0} {G : X → Type 0} {from to : ℕ} {work o e w : List ℕ} {st : State} (g : Good (lent work o e w st)) where
@@ -99,8 +99,3 @@ module _ (holds : Bool) (x : Error) (e : List ℕ) (st : State) where
 
   pub reported-one : holds ≡ false → (y : Error) → y ≡ x → (e′ : List ℕ) (st′ : State) → Reported e st y e′ st′ → ReportedUnless holds x e st e′ st′
   reported-one h y q e′ st′ r = record { none = λ z. absurd (true≢false (sym z ∙ h)); one = λ z. subst (λ (y : Error). Reported e st y e′ st′) q r }
-
-pub error-read : (s : List ℕ) (at k a b c file line column : ℕ) → Read (halfAt s (at + 6)) 16 file → Read (wordAt s (at + 8)) 32 line → Read (wordAt s (at + 12)) 32 column
-    → record { kind = k; file = file; line = line; column = column; first = a; second = b; third = c } ≡ errorAt s at k a b c
-error-read s at k a b c file line column f l d =
-    λ i. record { kind = k; file = f .is i; line = l .is i; column = d .is i; first = a; second = b; third = c }

@@ -8,19 +8,6 @@ use Rattle.node.specs.Bytes.{halfAt, wordAt}
 use Rattle.fallible.specs.declared.Error.{Error}
 use Rattle.state.specs.Words.{wordPlace}
 
--- An error of a kind at the record at a place: the file, the line and the column of its head
-abbrev pub errorAt : (s : List ℕ) → (at kind first second third : ℕ) → Error
-errorAt s at k a b c =
-    record {
-      kind = k;
-      file = halfAt s (at + 6);
-      line = wordAt s (at + 8);
-      column = wordAt s (at + 12);
-      first = a;
-      second = b;
-      third = c;
-    }
-
 -- A row number, or another where it is 0
 abbrev pub orRow : (row other : ℕ) → ℕ
 orRow row other = cond (eqb row 0) other row

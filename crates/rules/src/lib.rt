@@ -21,7 +21,8 @@ ghost use Rattle.node.specs.Layout.{stopAt};
 ghost use Rattle.meaning.specs.Expression.{partOf, computes as computing};
 ghost use Rattle.meaning.specs.Promise.{workWidth};
 ghost use Rattle.state.specs.Represents.{Shows};
-ghost use Rattle.rules.specs.Words.{errorAt, orUnknownRow, resolvedWord};
+ghost use Rattle.rules.specs.Words.{orUnknownRow, resolvedWord};
+ghost use Rattle.convert.specs.Post.{errorFor as errorAt};
 ghost use Rattle.rules.specs.Rules.{ReportedUnless, Identifier, Integer, Unary, Binary, Arithmetic, Cast, CheckAssignable};
 
 // The kinds of the records of operators.
@@ -42,22 +43,6 @@ const ARITHMETIC: u32 = 45;
 // The operator that an error names at a comparison.
 const COMPARISON_OPERATOR: u32 = 9;
 
-// An error at the record at `at`.
-pub fn error_at(s: &[u8], at: usize, kind: u32, first: u32, second: u32, third: u32) -> Error
-    requires { ⌜ at + 16 ≤ length (now s) ⌝ }
-    ensures { λ r. ⌜ r ≡ errorAt (now (s .entry)) at kind first second third ⌝ }
-{
-    Error {
-        kind,
-        file: half(s, at + 6),
-        line: word(s, at + 8),
-        column: word(s, at + 12),
-        first,
-        second,
-        third,
-    }
-}
-
 // Reports an error at the record at `at`, unless a test holds.
 pub fn report_unless(
     holds: bool,
@@ -76,7 +61,7 @@ pub fn report_unless(
     if holds {
         return state;
     }
-    let error = error_at(s, at, kind, first, second, third);
+    let error = convert::error_at(s, at, kind, first, second, third);
     state::report(errors, state, error)
 }
 
@@ -147,7 +132,7 @@ pub fn integer(s: &[u8], at: usize, errors: &mut [u32], state: State) -> Typed
             state,
         },
         Parsed::Invalid => {
-            let error = error_at(s, at, 23, 0, 0, 0);
+            let error = convert::error_at(s, at, 23, 0, 0, 0);
             let next = state::report(errors, state, error);
             Typed {
                 ty: types::U16,
@@ -207,7 +192,7 @@ fn field_access(
     let name = word(s, at + 20);
     let bare = types::desugar(rows, state.rows, ty);
     if types::kind(rows, state.rows, bare) != types::STRUCT {
-        let error = error_at(s, at, 17, ty, 0, 0);
+        let error = convert::error_at(s, at, 17, ty, 0, 0);
         let told = state::report(errors, state, error);
         return Typed {
             ty: types::UNKNOWN,
