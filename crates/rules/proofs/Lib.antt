@@ -2,3 +2,4 @@ pub mod Laws
 pub mod Found
 pub mod Exits
 pub mod Meaning
+pub mod Carry

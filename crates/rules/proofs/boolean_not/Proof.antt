@@ -1,3 +1,4 @@
+-- `rules::boolean_not` meets its contract: a law for each exit. Assumes nothing.
 use Rattle.rules.proofs.Exits as exits
 use borrow.Author.Needs.{needs}
 use Rattle.rules.proofs.boolean_not.Statement.{statement}

@@ -1,3 +1,4 @@
+-- `rules::or_unknown` meets its contract: a law for each exit. Assumes nothing.
 use Rattle.rules.proofs.Found as found
 use Rattle.rules.proofs.or_unknown.Statement.{statement}
 use Rattle.rules.proofs.or_unknown.Tie as tie

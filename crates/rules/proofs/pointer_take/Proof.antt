@@ -1,3 +1,4 @@
+-- `rules::pointer_take` meets its contract: a law for each exit. Assumes nothing.
 use Rattle.rules.proofs.Exits as exits
 use borrow.Author.Needs.{needs}
 use Rattle.rules.proofs.pointer_take.Statement.{statement}

@@ -1,3 +1,4 @@
+-- `rules::report_unless` meets its contract: a law for each exit. Assumes nothing.
 use Rattle.rules.proofs.Laws as laws
 use borrow.Author.Needs.{needs}
 use Rattle.rules.proofs.report_unless.Statement.{statement}

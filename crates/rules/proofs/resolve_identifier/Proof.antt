@@ -1,3 +1,4 @@
+-- `rules::resolve_identifier` meets its contract: a law for each exit. Assumes nothing.
 use Rattle.rules.proofs.Found as found
 use borrow.Author.Needs.{needs}
 use Rattle.rules.proofs.resolve_identifier.Statement.{statement}

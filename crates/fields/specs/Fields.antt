@@ -1,0 +1,97 @@
+-- The fields of a struct compound whose values are typed: what is required of them, what they show, and what the checks promise.
+use Prim.Native.Nat.{ℕ, zero, suc, _+_, _≤_, _<_}
+use mathlib.Core.Path.{_≡_}
+use mathlib.Core.Bool.{Bool, cond}
+use mathlib.Core.List.{List, [], _∷_}
+use lib.ListN.{length}
+use Rattle.types.specs.Ty.{Ty, firstOf, fieldNamed}
+use Rattle.types.specs.Table.{unfolded, IsType}
+use Rattle.node.specs.Bytes.{halfAt, wordAt}
+use Rattle.node.specs.Layout.{stopAt}
+use Rattle.node.specs.Record.{locationAt}
+use Rattle.node.specs.Tree.{CompoundField}
+use Rattle.meaning.specs.TypeError.{TypeError}
+use Rattle.meaning.specs.Context.{Context, each}
+use Rattle.meaning.specs.Expression.{expressionType}
+use Rattle.meaning.specs.Compound.{fieldFits, structErrors, occurrences, repeatErrors}
+use Rattle.state.specs.declared.State.{State}
+use Rattle.state.specs.Words.{slotPlace}
+use Rattle.state.specs.Represents.{Lent, Typing}
+use Rattle.rules.specs.Rules.{Checks}
+use Rattle.lists.specs.Lists.{Listed}
+
+-- A field's name follows its head, its value the name: the slot of the value
+abbrev pub valuePlace : (at : ℕ) → ℕ
+valuePlace at = slotPlace (at + 20)
+
+-- The slots of the values of n fields from `at` on hold type rows
+unfoldable pub ValueTypes : (rows : List ℕ) → (count : ℕ) → (s output : List ℕ) → (n at : ℕ) → Type 0
+ValueTypes rows count s output zero at = Unit {0}
+ValueTypes rows count s output (suc n) at =
+    (valuePlace at + 4 ≤ stopAt s at) × IsType rows count (wordAt output (valuePlace at)) × ValueTypes rows count s output n (stopAt s at)
+
+pub record FilledFields (rows : List ℕ) (count : ℕ) (s output : List ℕ) (at stop : ℕ) : Type 0 where
+  pub listed : Listed s at stop
+  pub types : ValueTypes rows count s output (listed .many) at
+  pub room : stop ≤ length output
+
+-- A field of the tree and the record at a place have one name and one location
+pub record FieldAt (s : List ℕ) (f : CompoundField) (at : ℕ) : Type 0 where
+  pub name : wordAt s (at + 16) ≡ f .name
+  pub file : halfAt s (at + 6) ≡ f .location .file
+  pub line : wordAt s (at + 8) ≡ f .location .line
+  pub column : wordAt s (at + 12) ≡ f .location .column
+
+-- The fields of the tree are the records from `at` to `stop`
+unfoldable pub FieldsAt : (s : List ℕ) → (stop : ℕ) → List CompoundField → (at : ℕ) → Type 0
+FieldsAt s stop [] at = at ≡ stop
+FieldsAt s stop (f ∷ fields) at = (at < stop) × FieldAt s f at × FieldsAt s stop fields (stopAt s at)
+
+-- and the slots of their values show their types
+unfoldable pub ValuesShow : (s output : List ℕ) → Lent → Context → List CompoundField → (at : ℕ) → Type 0
+ValuesShow s output C ctx [] at = Unit {0}
+ValuesShow s output C ctx (f ∷ fields) at = Typing C (wordAt output (valuePlace at)) (expressionType ctx (f .value)) × ValuesShow s output C ctx fields (stopAt s at)
+
+-- Fields in a context, for a target of a type
+pub record Compounded : Type 0 where
+  pub ctx : Context
+  pub target : Ty
+  pub fields : List CompoundField
+
+pub record FieldsTyped (s output : List ℕ) (from stop : ℕ) (C : Lent) (x : Compounded) : Type 0 where
+  pub stand : FieldsAt s stop (x .fields) from
+  pub show : ValuesShow s output C (x .ctx) (x .fields) from
+
+pub record CompoundTyped (s output : List ℕ) (from stop target : ℕ) (C : Lent) (x : Compounded) : Type 0 where
+  pub typing : Typing C target (x .target)
+  pub fields : FieldsTyped s output from stop C x
+
+-- The field at a place, whose value has the type v
+abbrev pub CheckField : (s : List ℕ) (place bare : ℕ) (output rows errors : List ℕ) (state : State) (errors′ : List ℕ) (state′ : State) → Type 0
+CheckField s place bare output rows =
+    Checks (λ C v. Typing C (wordAt output (valuePlace place)) v)
+    (λ v. fieldFits (locationAt s place) (wordAt s (place + 16)) (fieldNamed (wordAt s (place + 16)) (firstOf (unfolded rows bare))) v) rows
+
+-- Fields against the cells of a struct type
+abbrev pub fieldErrorsAgainst : (cells : Ty) → Context → List CompoundField → List TypeError
+fieldErrorsAgainst cells ctx fields = each (λ f. fieldFits (f .location) (f .name) (fieldNamed (f .name) cells) (expressionType ctx (f .value))) fields
+
+abbrev pub CheckFields : (s : List ℕ) (from stop bare : ℕ) (output rows errors : List ℕ) (state : State) (errors′ : List ℕ) (state′ : State) → Type 0
+CheckFields s from stop bare output rows =
+    Checks (FieldsTyped s output from stop) (λ x. fieldErrorsAgainst (firstOf (unfolded rows bare)) (x .ctx) (x .fields)) rows
+
+abbrev pub countIf : Bool → (count : ℕ) → ℕ
+countIf holds count = cond holds (count + 1) count
+
+-- r is how many fields have the name
+pub record Occurs (s : List ℕ) (from stop name r : ℕ) : Type 0 where
+  pub count : (fields : List CompoundField) → FieldsAt s stop fields from → r ≡ occurrences name fields
+
+-- Whatever rows are lent
+pub record CheckRepeats (s : List ℕ) (from stop : ℕ) (errors : List ℕ) (state : State) (errors′ : List ℕ) (state′ : State) : Type 0 where
+  pub checked : (rows : List ℕ) → Checks (λ C fields. FieldsAt s stop fields from) (λ fields. repeatErrors fields) rows errors state errors′ state′
+
+-- A struct compound, but for fields that stand twice
+abbrev pub StructCompound : (s : List ℕ) (at target from stop : ℕ) (output rows errors : List ℕ) (state : State) (errors′ : List ℕ) (state′ : State) → Type 0
+StructCompound s at target from stop output rows =
+    Checks (CompoundTyped s output from stop target) (λ x. structErrors (x .ctx) (locationAt s at) (x .target) (x .fields)) rows
