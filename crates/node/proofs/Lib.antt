@@ -10,3 +10,4 @@ pub mod TypeTrees
 pub mod ExpressionTrees
 pub mod Statements
 pub mod ItemTrees
+pub mod Compounds
