@@ -1,0 +1,10 @@
+pub mod Move
+pub mod Change
+pub mod Decode
+pub mod Induction
+pub mod Own
+pub mod Items
+pub mod Spaces
+pub mod Order
+pub mod Stores
+pub mod Filled

@@ -1,0 +1,25 @@
+-- The tree of an item as a walk over the module's bytes meets it: its records know their places in the file.
+use Prim.Native.Nat.{ℕ, _+_}
+use mathlib.Core.List.{List, [], _∷_, map}
+use Rattle.node.specs.Layout.{stopAt}
+use Rattle.node.specs.Names.{itemPlaces}
+use Rattle.node.specs.Record.{recordsAt, toItem}
+use Rattle.node.specs.Tree.{Item}
+use Rattle.meaning.specs.Convert.{Slot}
+
+-- The item at a place; items stand at depth 2 of 64
+abbrev pub itemTreeAt : (input : List ℕ) → (place : ℕ) → Item
+itemTreeAt input place = toItem (recordsAt input 63 place (stopAt input place))
+
+-- The items of a module
+abbrev pub treesAt : (input : List ℕ) → List Item
+treesAt input = map (itemTreeAt input) (itemPlaces input)
+
+-- A slot of an item that stands at a place, by its place in the file
+abbrev pub slotAt : (place : ℕ) → Slot → Slot
+slotAt place s = record { at = place + s .at; type = s .type }
+
+-- All of a list
+unfoldable pub All : {A : Type 0} → (A → Type 0) → List A → Type 0
+All P [] = Unit {0}
+All P (x ∷ l) = P x × All P l

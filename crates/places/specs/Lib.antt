@@ -1,0 +1,3 @@
+pub mod Absolute
+pub mod Spaced
+pub mod Stores
