@@ -22,7 +22,7 @@ use Rattle.state.specs.Represents.{lent, Grew}
 use Rattle.convert.specs.Post.{Ready, TypeOpened, FieldOpened}
 
 -- A case on a number
-by-number : {P : Type 0} (k j : ℕ) → (k ≡ j → P) → ((k ≡ j → ⊥) → P) → P
+pub by-number : {P : Type 0} (k j : ℕ) → (k ≡ j → P) → ((k ≡ j → ⊥) → P) → P
 by-number {P} k j here there = go (eqb k j) refl
   where
     go : (b : Bool) → eqb k j ≡ b → P

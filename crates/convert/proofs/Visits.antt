@@ -46,7 +46,7 @@ absorbed false false true false h = refl
 absorbed false false false true h = refl
 absorbed false false false false h = refl
 
-met-last : (x : Ty) (a p b : List Ty) (t : Ty) → (hasPart x p ≡ true → hasPart x (t ∷ []) ≡ true) → hasPart x ((a ++ (p ++ b)) ++ (t ∷ [])) ≡ hasPart x (t ∷ (a ++ b))
+pub met-last : (x : Ty) (a p b : List Ty) (t : Ty) → (hasPart x p ≡ true → hasPart x (t ∷ []) ≡ true) → hasPart x ((a ++ (p ++ b)) ++ (t ∷ [])) ≡ hasPart x (t ∷ (a ++ b))
 met-last x a p b t h =
     part-append x (a ++ (p ++ b)) (t ∷ [])
     ∙ ap (λ (y : Bool). y || hasPart x (t ∷ [])) (part-append x a (p ++ b) ∙ ap (λ (y : Bool). hasPart x a || y) (part-append x p b))

@@ -4,6 +4,7 @@ pub mod Decode
 pub mod Induction
 pub mod Own
 pub mod Items
+pub mod Listed
 pub mod Spaces
 pub mod Order
 pub mod Stores

@@ -3,7 +3,7 @@ use Prim.Native.Nat.{ℕ, _+_}
 use mathlib.Core.List.{List, [], _∷_, map}
 use Rattle.node.specs.Layout.{stopAt}
 use Rattle.node.specs.Names.{itemPlaces}
-use Rattle.node.specs.Record.{recordsAt, toItem}
+use Rattle.node.specs.Record.{Records, noRecords, recordThen, recordsAt, itemOf, toItem}
 use Rattle.node.specs.Tree.{Item}
 use Rattle.meaning.specs.Convert.{Slot}
 
@@ -14,6 +14,14 @@ itemTreeAt input place = toItem (recordsAt input 63 place (stopAt input place))
 -- The items of a module
 abbrev pub treesAt : (input : List ℕ) → List Item
 treesAt input = map (itemTreeAt input) (itemPlaces input)
+
+-- The items among records, and of the records from one place to another, so many levels deep
+unfoldable pub toItems : Records → List Item
+toItems noRecords = []
+toItems (recordThen h s children rest) = itemOf h children ∷ toItems rest
+
+abbrev pub itemsAt : List ℕ → (depth from end : ℕ) → List Item
+itemsAt s d from end = toItems (recordsAt s d from end)
 
 -- A slot of an item that stands at a place, by its place in the file
 abbrev pub slotAt : (place : ℕ) → Slot → Slot

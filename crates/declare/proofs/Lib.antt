@@ -1,0 +1,6 @@
+pub mod Heads
+pub mod Parameters
+pub mod Globals
+pub mod Aliases
+pub mod Items
+pub mod Lists

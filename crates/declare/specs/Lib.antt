@@ -1,0 +1,2 @@
+pub mod Declare
+pub mod Post
