@@ -34,7 +34,7 @@ use Rattle.expression.specs.Post.{CarriedAll}
 use Rattle.compound.specs.Post.{CarriedFields, Target, Aimed, CompoundChecked, CompoundCheckedAt}
 
 -- Slots that are visited, and errors told after them
-visit-told : (slots : List Slot) (e x : List TypeError) (m n : ℕ) → m ≤ n → Shown (visiting true slots e m then reporting x) (visiting true slots (e ++ x) n)
+pub visit-told : (slots : List Slot) (e x : List TypeError) (m n : ℕ) → m ≤ n → Shown (visiting true slots e m then reporting x) (visiting true slots (e ++ x) n)
 visit-told slots e x m n h =
     record {
       stores = subst (λ (l : List Store). List·Permᴰ l (map storeSlot slots)) (sym (append-nil (map storeSlot slots))) (Permᴰ·refl (map storeSlot slots));
@@ -43,13 +43,13 @@ visit-told slots e x m n h =
       steps = omega arith;
     }
 
-told-then : {X : Type 0} {G H : X → Type 0} {from to m n : ℕ} {A B C : Lent} (slots : X → List Slot) (errors own : X → List TypeError)
+pub told-then : {X : Type 0} {G H : X → Type 0} {from to m n : ℕ} {A B C : Lent} (slots : X → List Slot) (errors own : X → List TypeError)
     → Walked G (λ x. visiting true (slots x) (errors x) m) from to A B → Walked H (λ x. reporting (own x)) from to B C → ((x : X) → G x → H x) → m ≤ n
     → Walked G (λ x. visiting true (slots x) (errors x ++ own x) n) from to A C
 told-then {m = m} {n = n} slots errors own p q f few = walked-as (walked-then p q f) (λ x. visit-told (slots x) (errors x) (own x) m n few)
 
 -- A walk in a context, whatever the target is
-whatever-target : {s : List ℕ} {names : BuiltIns} {target : ℕ} {a : Context → Effect} {from to : ℕ} {A B : Lent} → Walked (Resolves s names A) a from to A B
+pub whatever-target : {s : List ℕ} {names : BuiltIns} {target : ℕ} {a : Context → Effect} {from to : ℕ} {A B : Lent} → Walked (Resolves s names A) a from to A B
     → Walked (Aimed s names A target) (λ x. a (x .ctx)) from to A B
 whatever-target p = record { grew = p .grew; frame = p .frame; does = λ x h. p .does (x .ctx) (h .resolves) }
 

@@ -15,9 +15,8 @@ use Rattle.node.specs.Layout.{kindAt, stopAt}
 use Rattle.node.specs.Record.{locationAt, typeAt, isDistinct, isInternal, itemTreeAt}
 use Rattle.node.specs.Fine.{FineRecord}
 use Rattle.node.specs.declared.names.BuiltIns.{BuiltIns}
-use Rattle.node.proofs.ShapeLaws.{item-kind}
 use Rattle.node.proofs.Open.{opened}
-use Rattle.node.proofs.ItemTrees.{item-alias, item-use, item-assembly}
+use Rattle.node.proofs.ItemTrees.{item-alias, item-other}
 use Rattle.meaning.specs.Context.{ModuleContext, Context, each, insertAll, isSome}
 use Rattle.meaning.specs.Convert.{convertNodeType}
 use Rattle.meaning.specs.Module.{internalErrors, convertedTypes, entryType, isTaken, aliasEntries, globalEntries, declarationErrors, declaredTypes}
@@ -30,7 +29,6 @@ use Rattle.state.proofs.Laws.{scope-later}
 use Rattle.state.proofs.Walks.{walked-none, walked-then, walked-as, walked-wider, walked-room, walked-at}
 use Rattle.convert.specs.Convert.{primitiveOf, Resolves, conversion}
 use Rattle.convert.specs.Post.{Ready, Converted}
-use Rattle.convert.proofs.Heads.{by-number}
 use Rattle.declare.specs.Declare.{newAliases, aliasStoring, withAliases, declaration, declared}
 use Rattle.declare.specs.Post.{nameAt, NamesOne, InternalCompared, Aliasing, AliasStored, Declared}
 
@@ -47,10 +45,6 @@ plain-flag : (f : ℕ) → f < 2 → (isInternal f ≡ false) × (isDistinct f �
 plain-flag zero h = (refl, refl)
 plain-flag (suc zero) h = (refl, refl)
 plain-flag (suc (suc f)) h = absurd (omega arith)
-
--- An item of none of four kinds has the fifth
-last-item : (k : ℕ) → 80 ≤ k → k ≤ 84 → (k ≡ 80 → ⊥) → (k ≡ 81 → ⊥) → (k ≡ 82 → ⊥) → (k ≡ 83 → ⊥) → k ≡ 84
-last-item k l h a b c e = omega arith
 
 -- What an alias adds to the effect, and to the context
 
@@ -180,17 +174,10 @@ module _ (s : List ℕ) (d at : ℕ) (f : FineRecord s d at (length s) anItem) w
           })
 
     -- Another item declares nothing
-    other-is : (k : ℕ) → k ≡ kindAt s at → (k ≡ 80 → ⊥) → (k ≡ 81 → ⊥) → (k ≡ 83 → ⊥) → itemTreeAt s d at ≡ otherItem
-    other-is k e a b c =
-        by-number k 82 (λ u. item-use s d at (length s) f (sym e ∙ u))
-        (λ u.
-        let z = item-kind (kindAt s at) (opened s d at (length s) anItem f .belongs) in
-        item-assembly s d at (length s) f (sym e ∙ last-item k (omega (arith, z .0)) (omega (arith, z .1)) a b u c))
-
     pub other-declared : Ready s entry → (k : ℕ) → Read (halfAt s (at + 4)) 16 k → (k ≡ 80 → ⊥) → (k ≡ 81 → ⊥) → (k ≡ 83 → ⊥) → Declared s names (itemTreeAt s d at) at (stopAt s at) entry entry
     unfolding insertAll isTaken aliasEntries globalEntries declarationErrors declaredTypes
     other-declared ready k read a b c =
-        subst (λ (x : Item). Declared s names x at (stopAt s at) entry entry) (sym (other-is k (read .is) a b c))
+        subst (λ (x : Item). Declared s names x at (stopAt s at) entry entry) (sym (item-other s d at (length s) f (λ e. a (read .is ∙ e)) (λ e. b (read .is ∙ e)) (λ e. c (read .is ∙ e))))
         (record {
           wide = refl;
           walked = walked-as (walked-none (ready .good)) (λ ctx. record { stores = Permᴰ·refl []; errors = refl; met = λ x. refl; steps = omega arith });

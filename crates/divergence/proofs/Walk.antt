@@ -145,23 +145,29 @@ sides-of s d at i = go (eqb (thirdAt s at) (stopAt s at)) refl
 
 -- `inner_statements`, arm by arm
 module _ (s : List ℕ) (d at : ℕ) (f : FineRecord s d at (length s) aStatement) (k len : ℕ) (ek : k ≡ halfAt s (at + 4)) (el : len ≡ wordAt s at) where
-  inner-of : (start : ℕ) → FineList s (d - 1) start (stopAt s at) Statements → statementsAt s (d - 1) start (stopAt s at) ≡ innerStatements (statementAt s d at)
-      → (k ≡ 73 → start ≡ secondAt s at) → InnerOf s d at (record { kind = k; start = start; stop = at + len })
-  inner-of start g m h = rw el (record { kinds = ek; stops = refl; deep = bounds s d at (length s) aStatement f .deep; fine = g; members = m; sides = h })
+  inner-of : (start : ℕ) → at + 16 ≤ start → FineList s (d - 1) start (stopAt s at) Statements → statementsAt s (d - 1) start (stopAt s at) ≡ innerStatements (statementAt s d at)
+      → ((k ≡ 71) ⊎ (k ≡ 73) → start ≡ secondAt s at) → ((k ≡ 64 → ⊥) → (k ≡ 70 → ⊥) → ((k ≡ 71) ⊎ (k ≡ 73) → ⊥) → start ≡ stopAt s at)
+      → InnerOf s d at (record { kind = k; start = start; stop = at + len })
+  inner-of start l g m h n = rw el (record { kinds = ek; stops = refl; deep = bounds s d at (length s) aStatement f .deep; fine = g; members = m; low = l; sides = h; none = n })
+
+  -- neither a while nor an if
+  no-condition : {A : Type 0} (j : ℕ) → k ≡ j → (j ≡ 71 → ⊥) → (j ≡ 73 → ⊥) → (k ≡ 71) ⊎ (k ≡ 73) → A
+  no-condition j e a b (inl x) = absurd (a (sym e ∙ x))
+  no-condition j e a b (inr x) = absurd (b (sym e ∙ x))
 
   pub inner-block : k ≡ 64 → InnerOf s d at (record { kind = k; start = at + 20; stop = at + len })
   unfolding innerStatements
   inner-block e =
       let b = statement-block s d at (length s) f (sym ek ∙ e) in
-      inner-of (at + 20) (b .members) (sym (ap innerStatements (b .is))) (λ h. absurd (omega arith))
+      inner-of (at + 20) (omega arith) (b .members) (sym (ap innerStatements (b .is))) (no-condition 64 e (λ x. omega arith) (λ x. omega arith)) (λ x y z. absurd (x e))
 
   pub inner-loop : k ≡ 70 → InnerOf s d at (record { kind = k; start = at + 16; stop = at + len })
   unfolding innerStatements
   inner-loop e =
       let b = statement-loop s d at (length s) f (sym ek ∙ e) in
       let r = bounds s d at (length s) aStatement f .stop in
-      inner-of (at + 16) (one-fine s (d - 1) (at + 16) (stopAt s at) (b .body) (b .ends) r) (one-is s (d - 1) (at + 16) (stopAt s at) (b .body) (b .ends) r ∙ sym (ap innerStatements (b .is)))
-      (λ h. absurd (omega arith))
+      inner-of (at + 16) (omega arith) (one-fine s (d - 1) (at + 16) (stopAt s at) (b .body) (b .ends) r) (one-is s (d - 1) (at + 16) (stopAt s at) (b .body) (b .ends) r ∙ sym (ap innerStatements (b .is)))
+      (no-condition 70 e (λ x. omega arith) (λ x. omega arith)) (λ x y z. absurd (y e))
 
   -- after the condition of a while or an if
   pub inner-after : (w : ℕ) → w ≡ wordAt s (at + 16) → (k ≡ 71) ⊎ (k ≡ 73) → InnerOf s d at (record { kind = k; start = at + 16 + w; stop = at + len })
@@ -170,14 +176,16 @@ module _ (s : List ℕ) (d at : ℕ) (f : FineRecord s d at (length s) aStatemen
       let b = statement-while s d at (length s) f (sym ek ∙ e) in
       let r = bounds s d at (length s) aStatement f .stop in
       let a = secondAt s at in
-      rw ew (inner-of a (one-fine s (d - 1) a (stopAt s at) (b .body) (b .ends) r) (one-is s (d - 1) a (stopAt s at) (b .body) (b .ends) r ∙ sym (ap innerStatements (b .is)))
-      (λ h. absurd (omega arith)))
+      let c = bounds s (d - 1) (at + 16) (length s) anExpression (b .condition) .head in
+      rw ew (inner-of a (omega arith) (one-fine s (d - 1) a (stopAt s at) (b .body) (b .ends) r) (one-is s (d - 1) a (stopAt s at) (b .body) (b .ends) r ∙ sym (ap innerStatements (b .is)))
+      (λ h. refl) (λ x y z. absurd (z (inl e))))
   inner-after w ew (inr e) =
       let i = statement-if s d at (length s) f (sym ek ∙ e) in
       let o = sides-of s d at i in
       let a = secondAt s at in
       let g = fine-in s (d - 1) a (length s) (stopAt s at) aStatement (i .body) (i .rest .part .starts) (i .rest .part .ends) in
-      rw ew (inner-of a (more-statements s (d - 1) a (stopAt s at) g (o .rest)) (statements-cons s (d - 1) a (stopAt s at) aStatement g ∙ o .members) (λ h. refl))
+      let c = bounds s (d - 1) (at + 16) (length s) anExpression (i .condition) .head in
+      rw ew (inner-of a (omega arith) (more-statements s (d - 1) a (stopAt s at) g (o .rest)) (statements-cons s (d - 1) a (stopAt s at) aStatement g ∙ o .members) (λ h. refl) (λ x y z. absurd (z (inr e))))
 
   pub condition-room : (k ≡ 71) ⊎ (k ≡ 73) → at + 20 ≤ length s
   condition-room (inl e) =
@@ -195,8 +203,8 @@ module _ (s : List ℕ) (d at : ℕ) (f : FineRecord s d at (length s) aStatemen
       let q : statementKind (statementAt s d at) ≡ k = kind-of s d at (length s) f ∙ sym ek in
       let l : 64 ≤ k = rw ek (statement-range (kindAt s at) (opened s d at (length s) aStatement f .belongs) .0) in
       subst (λ (x : ℕ). InnerOf s d at (record { kind = k; start = x; stop = at + len })) (ap (λ (x : ℕ). at + x) (sym el))
-      (inner-of (stopAt s at) (empty-fine s (d - 1) (stopAt s at) (stopAt s at) refl (o .stop) (o .few))
-      (empty-is s (d - 1) (stopAt s at) (stopAt s at) refl ∙ no-inner (statementAt s d at) (rw q l) (rw q a) (rw q b) (rw q c) (rw q h)) (λ x. absurd (h x)))
+      (inner-of (stopAt s at) (o .head) (empty-fine s (d - 1) (stopAt s at) (stopAt s at) refl (o .stop) (o .few))
+      (empty-is s (d - 1) (stopAt s at) (stopAt s at) refl ∙ no-inner (statementAt s d at) (rw q l) (rw q a) (rw q b) (rw q c) (rw q h)) (λ x. absurd (n x)) (λ x y z. refl))
 
 -- A statement by what it holds
 module _ (s : List ℕ) (d at : ℕ) (f : FineRecord s d at (length s) aStatement) (i : Inner) (o : InnerOf s d at i) where
@@ -244,19 +252,19 @@ module _ (s : List ℕ) (d at : ℕ) (f : FineRecord s d at (length s) aStatemen
   if-is e = statement-if s d at (length s) f (kind-is 73 e)
 
   pub side-fine : i .kind ≡ 73 → FineRecord s (d - 1) (i .start) (length s) aStatement
-  side-fine e = rw (o .sides e) (if-is e .body)
+  side-fine e = rw (o .sides (inr e)) (if-is e .body)
 
   pub side-bounds : i .kind ≡ 73 → Bounds s (d - 1) (i .start)
   side-bounds e = bounds s (d - 1) (i .start) (length s) aStatement (side-fine e)
 
   pub other-fine : i .kind ≡ 73 → (w : ℕ) → w ≡ wordAt s (i .start) → FineList s (d - 1) (i .start + w) (i .stop) Statements
-  other-fine e w ew = rw (ew, o .sides e, o .stops) (sides-of s d at (if-is e) .rest)
+  other-fine e w ew = rw (ew, o .sides (inr e), o .stops) (sides-of s d at (if-is e) .rest)
 
   sides-diverge : i .kind ≡ 73 → (w : ℕ) → w ≡ wordAt s (i .start) → (b r : Bool) → b ≡ doAllPathsDiverge (statementAt s (d - 1) (i .start))
       → r ≡ doAllPathsDiverge (statementsAt s (d - 1) (i .start + w) (i .stop)) → b && r ≡ doAllPathsDiverge (statementAt s d at)
   sides-diverge e w ew b r eb er =
-      let x : b ≡ doAllPathsDiverge (statementAt s (d - 1) (secondAt s at)) = eb ∙ ap (λ (p : ℕ). doAllPathsDiverge (statementAt s (d - 1) p)) (o .sides e) in
-      let p : i .start + w ≡ thirdAt s at = ap (λ (y : ℕ). i .start + y) ew ∙ ap (λ (y : ℕ). stopAt s y) (o .sides e) in
+      let x : b ≡ doAllPathsDiverge (statementAt s (d - 1) (secondAt s at)) = eb ∙ ap (λ (p : ℕ). doAllPathsDiverge (statementAt s (d - 1) p)) (o .sides (inr e)) in
+      let p : i .start + w ≡ thirdAt s at = ap (λ (y : ℕ). i .start + y) ew ∙ ap (λ (y : ℕ). stopAt s y) (o .sides (inr e)) in
       let y : r ≡ doAllPathsDiverge (statementsAt s (d - 1) (thirdAt s at) (stopAt s at)) =
       er ∙ λ j. doAllPathsDiverge (statementsAt s (d - 1) (p j) (o .stops j)) in
       (λ j. x j && y j) ∙ sym (sides-of s d at (if-is e) .diverge)

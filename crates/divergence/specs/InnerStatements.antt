@@ -1,6 +1,7 @@
 -- The statements that a statement holds.
 use Prim.Native.Nat.{ℕ, _+_, _-_, _≤_}
 use mathlib.Core.Path.{_≡_}
+use mathlib.Core.Logic.{_⊎_}
 use mathlib.Core.List.{List}
 use Rattle.node.specs.Layout.{kindAt, stopAt}
 use Rattle.node.specs.Fine.{FineList}
@@ -26,11 +27,13 @@ innerStatements (inlineAssembly l) = noStatements
 innerStatements noStatements = noStatements
 innerStatements (statementThen s rest) = statementThen s rest
 
--- `r` is the kind of the statement at `at`, and where the statements that it holds start and stop; those of an if follow its condition
+-- `r` is the kind of the statement at `at`, and where the statements that it holds start and stop; those of a while and an if follow its condition
 pub record InnerOf (s : List ℕ) (depth at : ℕ) (r : Inner) : Type 0 where
   pub kinds : r .kind ≡ kindAt s at
   pub stops : r .stop ≡ stopAt s at
   pub deep : 1 ≤ depth
   pub fine : FineList s (depth - 1) (r .start) (r .stop) Statements
   pub members : statementsAt s (depth - 1) (r .start) (r .stop) ≡ innerStatements (statementAt s depth at)
-  pub sides : r .kind ≡ 73 → r .start ≡ stopAt s (at + 16)
+  pub low : at + 16 ≤ r .start
+  pub sides : (r .kind ≡ 71) ⊎ (r .kind ≡ 73) → r .start ≡ stopAt s (at + 16)
+  pub none : (r .kind ≡ 64 → ⊥) → (r .kind ≡ 70 → ⊥) → ((r .kind ≡ 71) ⊎ (r .kind ≡ 73) → ⊥) → r .start ≡ r .stop

@@ -11,14 +11,14 @@ ghost use Rattle.meaning.specs.Divergence.{findBreak, doAllPathsDiverge};
 ghost use Rattle.divergence.specs.InnerStatements.{InnerOf};
 
 // A statement's kind, and where the statements that it holds start and stop.
-struct Inner {
-    kind: u32,
-    start: usize,
-    stop: usize,
+pub struct Inner {
+    pub kind: u32,
+    pub start: usize,
+    pub stop: usize,
 }
 
 // The statements that the statement at `at` holds: the condition of a while or an if comes before them.
-fn inner_statements(s: &[u8], at: usize, depth: usize) -> Inner
+pub fn inner_statements(s: &[u8], at: usize, depth: usize) -> Inner
     requires { ⌜ FineRecord (now s) depth at (length (now s)) aStatement ⌝ }
     ensures { λ r. ⌜ InnerOf (now (s .entry)) depth at r ⌝ }
 {

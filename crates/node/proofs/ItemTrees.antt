@@ -9,7 +9,7 @@ use mathlib.Core.Logic.{⊎-elim}
 use lib.ListN.{length}
 use lib.Dec.{leb, ltb, eqb}
 use native.Mathlib.Omega.{arith}
-use borrow.Author.Tests.{leb-true, ltb-true, ne-eqb, not-false}
+use borrow.Author.Tests.{leb-true, ltb-true, eqb-true, eqb-false, ne-eqb, not-false}
 use Rattle.node.specs.Bytes.{wordAt}
 use Rattle.node.specs.Shape.{shapeOf, dueIn, allowed, mustBe, mayBeEither, stateAfter, aType, aStatement, anItem, aParameter}
 use Rattle.node.specs.Names.{nameCount}
@@ -20,7 +20,7 @@ use Rattle.node.specs.declared.shape.Holds.{Holds}
 use Rattle.node.specs.declared.shape.Holds.the-variants.{Nothing, OneType, Declaration, InitialValue, FunctionParts, Parameters, Items}
 use Rattle.node.specs.Tree.{Item, functionDefinition, typeAlias, globalDeclaration, otherItem, Parameter, Statement}
 use Rattle.node.specs.Record.{Records, noRecords, recordThen, next, headOf, bytesAt, locationAt, recordsAt, toType, typeAt, toItem, itemOf, isDistinct, isInternal, toInitialValue, toParameters, toBody, parametersAt, bodyAt, itemTreeAt, statementAt, statementOf, toStatements, firstStatement}
-use Rattle.node.proofs.ShapeLaws.{kind-range}
+use Rattle.node.proofs.ShapeLaws.{kind-range, item-kind}
 use Rattle.node.proofs.Statements.{first-type, next-records}
 use Rattle.node.proofs.Open.{opened, opened-kind, Split, split-must, split-either, either-class, ended}
 use Rattle.node.proofs.Decode.{fine-own, fine-wide, records-end}
@@ -28,6 +28,10 @@ use Rattle.node.proofs.TypeTrees.{insideOf, node-of, own-node, TypeRoom
 
 parameter-kind : (k : ℕ) → shapeOf k .class ≡ aParameter → k ≡ 85
 parameter-kind k e = let r = kind-range aParameter 85 85 k refl (λ (z : aParameter ≡ 0). omega arith) e in omega (arith, r .0, r .1)
+
+-- of none of four kinds it has the fifth
+last-kind : (k : ℕ) → 80 ≤ k → k ≤ 84 → (k ≡ 80 → ⊥) → (k ≡ 81 → ⊥) → (k ≡ 82 → ⊥) → (k ≡ 83 → ⊥) → k ≡ 84
+last-kind k l h a b c e = omega arith
 
 -- An item of a known kind by itself
 item-of : (s : List ℕ) (d at end k : ℕ) → FineRecord s d at end anItem → kindAt s at ≡ k → itemTreeAt s d at ≡ itemOf (headOf k s at) (insideOf k s d at)
@@ -146,6 +150,15 @@ module _ (s : List ℕ) (d at end : ℕ) (f : FineRecord s d at end anItem) wher
 
   pub item-assembly : kindAt s at ≡ 84 → itemTreeAt s d at ≡ otherItem
   item-assembly e = item-of s d at end 84 f e
+
+  pub item-other : (kindAt s at ≡ 80 → ⊥) → (kindAt s at ≡ 81 → ⊥) → (kindAt s at ≡ 83 → ⊥) → itemTreeAt s d at ≡ otherItem
+  item-other a b c = go (eqb (kindAt s at) 82) refl
+    where
+      go : (x : Bool) → eqb (kindAt s at) 82 ≡ x → itemTreeAt s d at ≡ otherItem
+      go true e = item-use (eqb-true (kindAt s at) 82 e)
+      go false e =
+          let z = item-kind (kindAt s at) (opened s d at end anItem f .belongs) in
+          item-assembly (last-kind (kindAt s at) (z .0) (z .1) a b (eqb-false (kindAt s at) 82 e) c)
 
 -- The parameters and the body of a function: nothing is left
 pub parameters-none : (s : List ℕ) (d end : ℕ) → (parametersAt s d end end ≡ []) × (bodyAt s d end end ≡ none)

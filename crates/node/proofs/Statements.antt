@@ -136,6 +136,7 @@ pub record BlockAt (s : List ℕ) (d at : ℕ) : Type 0 where
 pub record ExpressionAt (s : List ℕ) (d at : ℕ) : Type 0 where
   pub is : statementAt s d at ≡ expression (locationAt s at) (expressionAt s (d - 1) (at + 16))
   pub value : FineRecord s (d - 1) (at + 16) (length s) anExpression
+  pub ends : stopAt s (at + 16) ≡ stopAt s at
 
 -- 66: name; T, then nothing, E or C
 pub record VariableAt (s : List ℕ) (d at : ℕ) : Type 0 where
@@ -150,12 +151,14 @@ pub record AssignmentAt (s : List ℕ) (d at : ℕ) : Type 0 where
   pub is : statementAt s d at ≡ assignment (locationAt s at) (expressionAt s (d - 1) (at + 16)) (expressionAt s (d - 1) (secondAt s at))
   pub target : FineRecord s (d - 1) (at + 16) (length s) anExpression
   pub value : FineRecord s (d - 1) (secondAt s at) (length s) anExpression
+  pub ends : thirdAt s at ≡ stopAt s at
 
 -- 68: E, C
 pub record CompoundAssignmentAt (s : List ℕ) (d at : ℕ) : Type 0 where
   pub is : statementAt s d at ≡ compoundAssignment (locationAt s at) (expressionAt s (d - 1) (at + 16)) (compoundAt s (d - 1) (secondAt s at))
   pub target : FineRecord s (d - 1) (at + 16) (length s) anExpression
   pub value : FineRecord s (d - 1) (secondAt s at) (length s) aCompound
+  pub ends : thirdAt s at ≡ stopAt s at
 
 -- 69: nothing or E
 pub record ReturnAt (s : List ℕ) (d at : ℕ) : Type 0 where
@@ -206,6 +209,7 @@ module _ (s : List ℕ) (d at end : ℕ) (f : FineRecord s d at end aStatement) 
       record {
         is = statement-of s d at end f 65 (at + 16) e q ∙ ap (expression (locationAt s at)) (first-expression s (d - 1) (at + 16) (stopAt s at) anExpression (c .first));
         value = wide _ _ _ (c .first);
+        ends = ended s (d - 1) (stopAt s (at + 16)) (stopAt s at) Nothing refl (c .rest);
       }
 
   pub statement-variable : kindAt s at ≡ 66 → VariableAt s d at
@@ -237,6 +241,7 @@ module _ (s : List ℕ) (d at end : ℕ) (f : FineRecord s d at end aStatement) 
         is = statement-of s d at end f 67 (at + 16) e q ∙ λ i. assignment (locationAt s at) (x i) (y i);
         target = wide _ _ _ (c .first);
         value = wide _ _ _ (v .first);
+        ends = ended s (d - 1) (stopAt s b) (stopAt s at) Nothing refl (v .rest);
       }
 
   pub statement-compound-assignment : kindAt s at ≡ 68 → CompoundAssignmentAt s d at
@@ -252,6 +257,7 @@ module _ (s : List ℕ) (d at end : ℕ) (f : FineRecord s d at end aStatement) 
         is = statement-of s d at end f 68 (at + 16) e q ∙ λ i. compoundAssignment (locationAt s at) (x i) (y i);
         target = wide _ _ _ (c .first);
         value = wide _ _ _ (v .first);
+        ends = ended s (d - 1) (stopAt s b) (stopAt s at) Nothing refl (v .rest);
       }
 
   pub statement-return : kindAt s at ≡ 69 → ReturnAt s d at
@@ -356,6 +362,7 @@ optional-none s d end = ap toOptional (records-end s d end)
 pub record OptionalAt (s : List ℕ) (d at end : ℕ) : Type 0 where
   pub is : toOptional (recordsAt s d at end) ≡ some (expressionAt s d at)
   pub value : FineRecord s d at (length s) anExpression
+  pub ends : stopAt s at ≡ end
 
 pub optional-some : (s : List ℕ) (d at end : ℕ) → FineList s d at end OptionalExpression → (at ≡ end → ⊥) → OptionalAt s d at end
 unfolding dueIn
@@ -365,6 +372,7 @@ optional-some s d at end f p =
     record {
       is = ap toOptional r ∙ ap (λ (x : Expression). some x) (sym (ap toExpression r) ∙ first-expression s d at end anExpression (c .first));
       value = fine-wide s d at end anExpression (c .first);
+      ends = ended s d (stopAt s at) end Nothing refl (c .rest);
     }
 
 -- What a variable starts with, from `at` to `end`

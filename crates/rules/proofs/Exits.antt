@@ -51,7 +51,7 @@ module _ (w : List ℕ) (c kind ty k : ℕ) (one : OneType w c ty) (ek : k ≡ k
 -- `computes`
 
 -- Rows are equal where their types are
-same-rows : (w : List ℕ) (c i j : ℕ) → TwoTypes w c i j → eqb i j ≡ same (unfolded w i) (unfolded w j)
+pub same-rows : (w : List ℕ) (c i j : ℕ) → TwoTypes w c i j → eqb i j ≡ same (unfolded w i) (unfolded w j)
 same-rows w c i j two = go (eqb i j) refl
   where
     go : (b : Bool) → eqb i j ≡ b → eqb i j ≡ same (unfolded w i) (unfolded w j)

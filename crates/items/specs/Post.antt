@@ -1,0 +1,79 @@
+-- What pass 2 promises, of an item and of all.
+use Prim.Native.Nat.{ℕ, _+_, _-_, _%_, _≤_, _<_}
+use mathlib.Core.Path.{_≡_}
+use mathlib.Core.Bool.{true}
+use mathlib.Core.List.{List}
+use mathlib.Core.Option.{Option}
+use lib.ListN.{length, getD}
+use Rattle.types.specs.Ty.{void}
+use Rattle.node.specs.Bytes.{wordAt}
+use Rattle.node.specs.Layout.{kindAt, stopAt}
+use Rattle.node.specs.Fine.{FineList}
+use Rattle.node.specs.Tree.{Statement, Parameter, Item}
+use Rattle.node.specs.Record.{locationAt, parametersAt, bodyAt, itemTreeAt}
+use Rattle.node.specs.declared.shape.Holds.the-variants.{Parameters}
+use Rattle.node.specs.declared.names.BuiltIns.{BuiltIns}
+use Rattle.meaning.specs.Context.{noTypes, ModuleContext, LocalContext, Context, context, blank, each}
+use Rattle.meaning.specs.Module.{parameterErrors, parameterSlots, argumentMap, bodyErrors, bodySlots, itemErrors, itemSlots}
+use Rattle.meaning.specs.Promise.{workWidth}
+use Rattle.state.specs.Represents.{Lent, Scope}
+use Rattle.state.specs.Post.{Walked}
+use Rattle.convert.specs.Convert.{Resolves, visiting}
+use Rattle.statement.specs.Post.{Inside}
+use Rattle.places.specs.Absolute.{itemsAt}
+
+-- Outside of functions: the working words hold the context of the module, and no local or argument
+abbrev pub Outside : (s : List ℕ) → BuiltIns → Lent → ModuleContext → Type 0
+Outside s names C m = Resolves s names C (context m blank)
+
+-- A function's parameters are known, and no local
+abbrev pub knowing : ModuleContext → List Parameter → Context
+knowing m parameters = context m (record { variables = noTypes; arguments = argumentMap m parameters; returnType = void })
+
+-- What is left of a function after its parameters: its body or nothing
+pub record BodyLeft (s : List ℕ) (depth body end : ℕ) : Type 0 where
+  pub fine : FineList s depth body end Parameters
+  pub last : body < end → kindAt s body ≡ 85 → ⊥
+
+-- The parameters from `from` were checked, up to the place `body`, where the body stands or the function ends: the working words know them
+pub record ParametersChecked (s : List ℕ) (names : BuiltIns) (depth from end body : ℕ) (C C′ : Lent) : Type 0 where
+  pub wide : length (C′ .work) ≡ length (C .work)
+  pub low : from ≤ body
+  pub left : BodyLeft s depth body end
+  pub same : bodyAt s depth from end ≡ bodyAt s depth body end
+  pub walked : Walked (Outside s names C)
+      (λ m. visiting true (each (parameterSlots m) (parametersAt s depth from end)) (each (parameterErrors m) (parametersAt s depth from end)) (body - from)) from body C C′
+  pub scope : (m : ModuleContext) → Outside s names C m → Scope C′ (knowing m (parametersAt s depth from end))
+
+-- The body of the function at `at`, or nothing, was checked: its effect, and the context of the module is as it was
+pub record BodyChecked (s : List ℕ) (names : BuiltIns) (tree : Option Statement) (at body stop returned : ℕ) (C C′ : Lent) : Type 0 where
+  pub wide : length (C′ .work) ≡ length (C .work)
+  pub walked : Walked (Inside s names C returned)
+      (λ ctx. visiting true (bodySlots ctx tree) (bodyErrors ctx (locationAt s at) (wordAt s (at + 16)) tree) (stop - body)) body stop C C′
+  pub scope : (ctx : Context) → Inside s names C returned ctx → (l : LocalContext) × Scope C′ (context (ctx .inModule) l)
+
+-- The words of locals and arguments are 0, the others as they were
+pub record Cleared (work work′ : List ℕ) : Type 0 where
+  pub wide : length work′ ≡ length work
+  pub kept : (i : ℕ) → i % workWidth < 2 → getD work′ i 0 ≡ getD work i 0
+  pub zeros : (i : ℕ) → 2 ≤ i % workWidth → getD work′ i 0 ≡ 0
+
+-- An item from `at` to `stop` was checked: its effect, and no local or argument is left in the working words
+pub record ItemChecked (s : List ℕ) (names : BuiltIns) (item : Item) (at stop : ℕ) (C C′ : Lent) : Type 0 where
+  pub wide : length (C′ .work) ≡ length (C .work)
+  pub walked : Walked (Outside s names C) (λ m. visiting true (itemSlots m item) (itemErrors m item) (stop - at)) at stop C C′
+  pub scope : (m : ModuleContext) → Outside s names C m → Scope C′ (context m blank)
+
+-- The item at a place, with so many levels left
+abbrev pub ItemCheckedAt : (s : List ℕ) → BuiltIns → (depth at : ℕ) → (C C′ : Lent) → Type 0
+ItemCheckedAt s names depth at C C′ = ItemChecked s names (itemTreeAt s depth at) at (stopAt s at) C C′
+
+-- Items, one after another
+pub record ItemsChecked (s : List ℕ) (names : BuiltIns) (items : List Item) (from end : ℕ) (C C′ : Lent) : Type 0 where
+  pub wide : length (C′ .work) ≡ length (C .work)
+  pub walked : Walked (Outside s names C) (λ m. visiting true (each (itemSlots m) items) (each (itemErrors m) items) (end - from)) from end C C′
+  pub scope : (m : ModuleContext) → Outside s names C m → Scope C′ (context m blank)
+
+-- The items from one place to another
+abbrev pub ItemsCheckedAt : (s : List ℕ) → BuiltIns → (depth from end : ℕ) → (C C′ : Lent) → Type 0
+ItemsCheckedAt s names depth from end C C′ = ItemsChecked s names (itemsAt s depth from end) from end C C′
