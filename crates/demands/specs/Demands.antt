@@ -1,0 +1,78 @@
+-- The request's three demands, each over whole runs of the entry: what a call was given, left and answered (`Run`). Types are compared unfolded.
+use Prim.Native.Nat.{ℕ, _*_, _≤_, _<_}
+use mathlib.Core.Path.{_≡_}
+use mathlib.Core.List.{List, [], _∷_}
+use mathlib.Core.Option.{Option, none, some}
+use lib.ListN.{length}
+use Rattle.types.specs.Table.{rowWidth}
+use Rattle.fallible.specs.Outcome.{Outcome, refused, accepted}
+use Rattle.fallible.specs.Errors.{errorWidth}
+use Rattle.node.specs.Layout.{layoutOf}
+use Rattle.node.specs.Names.{namesOf, repeatedName}
+use Rattle.node.specs.Record.{itemTree, itemSlotPlaces}
+use Rattle.node.specs.declared.layout.Layout.the-variants.{Good}
+use Rattle.node.specs.declared.names.Repeated.the-variants.{Nowhere}
+use Rattle.meaning.specs.Module.{itemTypes}
+use Rattle.meaning.specs.Promise.{workWidth, Counts, countsOf, Buffers, Lengths, lengthsOf, tests, wiped, Accepted, contextOf, errorsOf, errorListOf, itemCount, itemAt, outputAt, slotTypes}
+use Rattle.meaning.specs.JoiningOrder.{Run, AnotherOrder, Supposed, SameOutcome}
+use Rattle.type_check.specs.Post.{orNext}
+
+-- Demand 1. "A module file that meets the layout, repeats no name in its list and fits the buffers lent"
+pub record Fits (input : List ℕ) (lent : Lengths) : Type 0 where
+  pub layout : layoutOf input ≡ Good
+  pub names : repeatedName input ≡ Nowhere
+  pub output : length input ≤ lent .output
+  pub work : workWidth * length (namesOf input) ≤ lent .work
+  pub rows : rowWidth * countsOf input .rows ≤ lent .rows
+  pub errors : errorWidth * countsOf input .errors ≤ lent .errors
+
+-- "is checked to its end and comes back whole, each type slot filled, with its errors and counts"
+pub record Whole (run : Run) : Type 0 where
+  pub answer : run .answer ≡ accepted (countsOf (run .input))
+  pub back : Accepted (run .input) (run .before) (run .after) (countsOf (run .input))
+
+-- The first of some tests that refuses, with its number and place
+unfoldable pub firstOf : List (Option (ℕ × ℕ)) → Option (ℕ × ℕ)
+firstOf [] = none
+firstOf (t ∷ tests) = orNext t (firstOf tests)
+
+-- "Every other input gets the number in document 01's table and leaves each buffer as that table says"
+pub record TurnedBack (run : Run) : Type 0 where
+  pub number : ℕ
+  pub place : ℕ
+  pub answer : run .answer ≡ refused number place
+  pub table : firstOf (tests (run .input) (lengthsOf (run .before))) ≡ some (number, place)
+  pub left : number ≤ 5 → run .after ≡ run .before
+  pub zeroed : 6 ≤ number → run .after ≡ wiped (run .input) (run .before)
+
+pub record Demand1 (run : Run) : Type 0 where
+  pub whole : Fits (run .input) (lengthsOf (run .before)) → Whole run
+  pub otherwise : (Fits (run .input) (lengthsOf (run .before)) → ⊥) → TurnedBack run
+
+-- Demand 2. "Literals follow the standard library's page for u16::from_str_radix, all else 01's typing rules": the errors in their order, and the
+-- type of each slot, are those of the typing rules (`errorsOf`, `itemTypes`; literals by `fromStrRadix`)
+pub record Demand2 (run : Run) (counts : Counts) : Type 0 where
+  pub errors : errorListOf (run .after .rows) (run .after .errors) (counts .errors) ≡ errorsOf (run .input)
+  pub types : (i : ℕ) → i < itemCount (run .input)
+      → slotTypes (run .after .rows) (outputAt (run .input) (run .after .output) i) (itemSlotPlaces (itemAt (run .input) i))
+      ≡ itemTypes (contextOf (run .input)) (itemTree (itemAt (run .input) i))
+
+-- Demand 3. Two runs, "over any module, and over the same names list with the same items in any other order, with every other buffer of equal
+-- length in both", under the request's suppositions
+pub record TwoOrders (c d : Run) : Type 0 where
+  pub order : AnotherOrder (c .input) (d .input)
+  pub lengths : lengthsOf (c .before) ≡ lengthsOf (d .before)
+  pub first : Supposed (c .input)
+  pub second : Supposed (d .input)
+
+abbrev pub Demand3 : (c d : Run) → Type 0
+Demand3 c d = TwoOrders c d → SameOutcome c d (c .answer) (d .answer)
+
+-- A run of the entry, and all three demands of two of them
+abbrev pub run : (input : List ℕ) → (before after : Buffers) → Outcome Counts → Run
+run input before after answer = record { input = input; before = before; after = after; answer = answer }
+
+pub record Demands (c d : Run) : Type 0 where
+  pub first : Demand1 c
+  pub second : (counts : Counts) → c .answer ≡ accepted counts → Demand2 c counts
+  pub third : Demand3 c d

@@ -1,0 +1,34 @@
+-- `print_errors` is safe and ends. Assumes nothing.
+use Prim.Native.Nat.{_≤_, _-_}
+use borrow.Author.Needs.{needs}
+use Rattle.dump.proofs.print_errors.Statement.{statement}
+use Rattle.dump.proofs.print_errors.Tie as tie
+
+abbrev Inv-loop : tie.InvT-loop
+Inv-loop errors count i₀ i = i ≤ count
+
+abbrev μ-loop : tie.MeasureT-loop
+μ-loop errors count i₀ i = count - i
+
+loop-holds : tie.Need-loop-holds Inv-loop μ-loop
+loop-holds c = search needs
+
+print-error-requires : tie.Need-print-error-requires Inv-loop μ-loop
+print-error-requires c κs = search needs
+
+add-i : tie.Need-add-i Inv-loop μ-loop
+add-i c = search needs
+
+loop-less : tie.Need-loop-less Inv-loop μ-loop
+loop-less c = search needs
+
+loop-again : tie.Need-loop-again Inv-loop μ-loop
+loop-again c = search needs
+
+returns : tie.Need-returns Inv-loop μ-loop
+returns c = search needs
+
+pub print-errors-spec : {M : Type 1} → statement M
+print-errors-spec =
+    tie.close
+    (tie.spec Inv-loop μ-loop loop-holds print-error-requires add-i loop-less loop-again returns)

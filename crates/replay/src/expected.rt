@@ -1,0 +1,19 @@
+// The words of a case. Those that are numbers of its rows are translated to the checker's numbers.
+use node::bytes::word;
+
+// The word of this number in a part of a case; 0 past its end.
+pub fn word_of(part: &[u8], i: usize) -> u32 {
+    if part.len() / 4 <= i {
+        return 0;
+    }
+    word(part, 4 * i)
+}
+
+// The checker's number of a row of the case. 0 stays 0.
+pub fn number_of(numbers: &[u32], n: u32) -> u32 {
+    let i = n as usize;
+    if numbers.len() <= i {
+        return 0;
+    }
+    numbers[i]
+}

@@ -1,0 +1,122 @@
+// Runs the checker on cases whose answers are known, and prints a line for each of the first that differ, then how many were accepted
+// and refused as expected and how many differ. Standard input is a list of cases (src/judge.rt).
+mod errors;
+mod expected;
+mod judge;
+mod output;
+mod rows;
+
+use judge::Verdict;
+use judge::judge;
+use libc::STDIN_FILENO;
+use node::bytes::length_at;
+use programs::print::print_text;
+use programs::print::print_word;
+ghost use Prim.Native.Nat.{_+_, _<_, _≤_};
+ghost use lib.ListN.{length};
+
+// No more cases than this are run, and no more differences are printed.
+const CASES: u32 = 1000000;
+
+const SHOWN: u32 = 20;
+
+// Reads the next case: how many bytes it has. 0 is the end; a case that is longer than the room or than the input is cut.
+fn read_case(case: &mut [u8]) -> usize
+    requires { ⌜ 4 ≤ length (now case) ⌝ }
+    ensures { λ r. ⌜ r ≤ length (now (case .exit)) ⌝ }
+{
+    if io::read_full(STDIN_FILENO, &mut case[0..4]) < 4 {
+        return 0;
+    }
+    let total = length_at(case, 0);
+    if total < 4 {
+        return 4;
+    }
+    if case.len() < total {
+        return 4;
+    }
+    4 + io::read_full(STDIN_FILENO, &mut case[4..total])
+}
+
+// How many cases are accepted and refused as expected, and how many differ.
+struct Tally {
+    good: u32,
+    refused: u32,
+    differ: u32,
+}
+
+fn print_difference(k: u32, differ: u32) {
+    if differ < SHOWN {
+        print_text(b"differ ");
+        print_word(k);
+        print_text(b"\n");
+    }
+}
+
+// Counts case k, and prints its number if it differs.
+fn count(tally: Tally, k: u32, verdict: Verdict) -> Tally
+    requires { ⌜ (tally .good ≤ k) × (tally .refused ≤ k) × (tally .differ ≤ k) × (k < 1000000) ⌝ }
+    ensures { λ r. ⌜ (r .good ≤ k + 1) × (r .refused ≤ k + 1) × (r .differ ≤ k + 1) ⌝ }
+{
+    match verdict {
+        Verdict::Good => Tally {
+            good: tally.good + 1,
+            refused: tally.refused,
+            differ: tally.differ,
+        },
+        Verdict::Refused => Tally {
+            good: tally.good,
+            refused: tally.refused + 1,
+            differ: tally.differ,
+        },
+        Verdict::Differs => {
+            print_difference(k, tally.differ);
+            Tally {
+                good: tally.good,
+                refused: tally.refused,
+                differ: tally.differ + 1,
+            }
+        }
+    }
+}
+
+// `good 12 refused 3 differ 0`
+fn print_tally(tally: Tally) {
+    print_text(b"good ");
+    print_word(tally.good);
+    print_text(b" refused ");
+    print_word(tally.refused);
+    print_text(b" differ ");
+    print_word(tally.differ);
+    print_text(b"\n");
+}
+
+fn main() {
+    let mut case = [0u8; 250000];
+    let mut output = [0u8; 70000];
+    let mut rows = [0u32; 12000];
+    let mut errors = [0u32; 14000];
+    let mut work = [0u32; 16376];
+    let mut tally = Tally {
+        good: 0,
+        refused: 0,
+        differ: 0,
+    };
+    let mut k: u32 = 0;
+    while k < CASES {
+        let total = read_case(&mut case);
+        if total == 0 {
+            break;
+        }
+        let verdict = judge(
+            &case[0..total],
+            &mut output,
+            &mut rows,
+            &mut errors,
+            &mut work,
+        );
+        tally = count(tally, k, verdict);
+        k += 1;
+    }
+    print_tally(tally);
+}

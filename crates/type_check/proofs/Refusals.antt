@@ -1,0 +1,100 @@
+-- The tests that turn a module back before the check. Assumes nothing.
+use Prim.Native.Nat.{ℕ, _*_, _≤_, _<_}
+use mathlib.Core.Path.{_≡_, refl, sym, _∙_, ap}
+use mathlib.Core.Bool.{Bool, true, false, cond, _||_}
+use mathlib.Core.List.{List, []}
+use mathlib.Core.Option.{Option, none, some}
+use native.Mathlib.Omega.{arith}
+use lib.Dec.{ltb}
+use lib.ListN.{length, length-map}
+use borrow.Author.Tests.{lt-ltb, le-ltb, ltb-false}
+use Rattle.node.specs.Names.{namesOf, nameCount, namePlaces, nameBytes, repeatedName, nameRefusal}
+use Rattle.node.specs.Layout.{layoutOf, layoutRefusal}
+use Rattle.node.specs.declared.layout.Layout.{Layout}
+use Rattle.node.specs.declared.layout.Layout.the-variants.{Good, TooLong, Fault, TooDeep}
+use Rattle.node.specs.declared.names.Repeated.{Repeated}
+use Rattle.node.specs.declared.names.Repeated.the-variants.{Nowhere, At}
+use Rattle.meaning.specs.Promise.{workWidth, refuseIf}
+use Rattle.type_check.specs.Post.{orNext, loanRefusal, laterRefusal, earlyRefusal, Passed}
+
+pub names-counted : (s : List ℕ) → length (namesOf s) ≡ nameCount s
+unfolding namesOf nameCount
+names-counted s = length-map (namePlaces s) (nameBytes s)
+
+-- Test 5
+module _ (input : List ℕ) (output work names : ℕ) (n : names ≡ nameCount input) where
+  same : ltb work (workWidth * length (namesOf input)) ≡ ltb work (workWidth * names)
+  same = ap (λ (k : ℕ). ltb work (workWidth * k)) (names-counted input ∙ sym n)
+
+  loans : (a b : Bool) → ltb output (length input) ≡ a → ltb work (workWidth * names) ≡ b → refuseIf (a || b) 5 ≡ loanRefusal input output work
+  loans a b p q = λ i. refuseIf (sym p i || sym (same ∙ q) i) 5
+
+  pub short-output : output < length input → some (5, 0) ≡ loanRefusal input output work
+  short-output l = loans true (ltb work (workWidth * names)) (lt-ltb output (length input) l) refl
+
+  pub short-work : length input ≤ output → work < workWidth * names → some (5, 0) ≡ loanRefusal input output work
+  short-work l w = loans false true (le-ltb output (length input) l) (lt-ltb work (workWidth * names) w)
+
+  pub enough : length input ≤ output → workWidth * names ≤ work → none ≡ loanRefusal input output work
+  enough l w = loans false false (le-ltb output (length input) l) (le-ltb work (workWidth * names) w)
+
+-- Test 4, then 5
+module _ (input : List ℕ) (output work : ℕ) {r : Repeated} (e : r ≡ repeatedName input) where
+  pub name-repeated : {p : ℕ} → r ≡ At p → some (4, p) ≡ laterRefusal input output work
+  unfolding nameRefusal
+  name-repeated q = ap (λ (x : Repeated). orNext (nameRefusal x) (loanRefusal input output work)) (sym q ∙ e)
+
+  pub no-name-repeated : {x : Option (ℕ × ℕ)} → r ≡ Nowhere → x ≡ loanRefusal input output work → x ≡ laterRefusal input output work
+  unfolding nameRefusal
+  no-name-repeated q h = h ∙ ap (λ (x : Repeated). orNext (nameRefusal x) (loanRefusal input output work)) (sym q ∙ e)
+
+-- Tests 1 to 3, then 4 and 5
+module _ (input : List ℕ) (output work : ℕ) {r : Layout} (e : r ≡ layoutOf input) where
+  bad : {y : Layout} → r ≡ y → orNext (layoutRefusal y) (laterRefusal input output work) ≡ earlyRefusal input output work
+  bad q = ap (λ (x : Layout). orNext (layoutRefusal x) (laterRefusal input output work)) (sym q ∙ e)
+
+  pub too-long : r ≡ TooLong → some (1, 0) ≡ earlyRefusal input output work
+  unfolding layoutRefusal
+  too-long q = bad q
+
+  pub a-fault : {p : ℕ} → r ≡ Fault p → some (2, p) ≡ earlyRefusal input output work
+  unfolding layoutRefusal
+  a-fault q = bad q
+
+  pub too-deep : {p : ℕ} → r ≡ TooDeep p → some (3, p) ≡ earlyRefusal input output work
+  unfolding layoutRefusal
+  too-deep q = bad q
+
+  pub good-layout : {x : Option (ℕ × ℕ)} → r ≡ Good → x ≡ laterRefusal input output work → x ≡ earlyRefusal input output work
+  unfolding layoutRefusal
+  good-layout q h = h ∙ bad q
+
+-- Where none refuses, all are passed
+pub all-passed : (input : List ℕ) (output work : ℕ) → none ≡ earlyRefusal input output work → Passed input output work
+unfolding layoutRefusal nameRefusal
+all-passed input output work e = by-layout (layoutOf input) refl e
+  where
+    never : {A : Type 0} {r : ℕ × ℕ} → _≡_ {A = Option (ℕ × ℕ)} none (some r) → A
+    never q = absurd (let z : _≡_ {A = ℕ} 0 1 = cc in omega arith)
+
+    by-loan : layoutOf input ≡ Good → repeatedName input ≡ Nowhere → (a b : Bool) → ltb output (length input) ≡ a → ltb work (workWidth * length (namesOf input)) ≡ b
+        → none ≡ refuseIf (a || b) 5 → Passed input output work
+    by-loan l r true b p q h = never h
+    by-loan l r false true p q h = never h
+    by-loan l r false false p q h =
+        record {
+          layout = l;
+          names = r;
+          long = ltb-false output (length input) p;
+          wide = ltb-false work (workWidth * nameCount input) (ap (λ (k : ℕ). ltb work (workWidth * k)) (sym (names-counted input)) ∙ q);
+        }
+
+    by-name : layoutOf input ≡ Good → (r : Repeated) → repeatedName input ≡ r → none ≡ orNext (nameRefusal r) (loanRefusal input output work) → Passed input output work
+    by-name l Nowhere p h = by-loan l p (ltb output (length input)) (ltb work (workWidth * length (namesOf input))) refl refl h
+    by-name l (At q) p h = never h
+
+    by-layout : (l : Layout) → layoutOf input ≡ l → none ≡ orNext (layoutRefusal l) (laterRefusal input output work) → Passed input output work
+    by-layout Good p h = by-name p (repeatedName input) refl h
+    by-layout TooLong p h = never h
+    by-layout (Fault q) p h = never h
+    by-layout (TooDeep q) p h = never h

@@ -1,0 +1,256 @@
+// `type_check_module`: the tests that turn a module back, then pass 1 over the items' declared types and pass 2 over the items.
+use declare::declare_items;
+use items::type_check_items;
+use node::bytes::length_at;
+use node::layout::Layout;
+use node::layout::check_layout;
+use node::names::Repeated;
+use node::names::built_ins;
+use node::names::name_count;
+use node::names::repeated_name;
+use state::State;
+use state::WORK_WIDTH;
+ghost use mathlib.Core.Path.{_≡_};
+ghost use mathlib.Core.Bool.{true, false};
+ghost use mathlib.Core.Option.{none};
+ghost use Prim.Native.Nat.{_≤_, _*_};
+ghost use mathlib.Core.List.{_++_};
+ghost use lib.ListN.{length, replicate, drop};
+ghost use Rattle.node.specs.Names.{nameCount};
+ghost use Rattle.meaning.specs.Promise.{Checked, cleared, workWidth};
+ghost use Rattle.type_check.specs.Post.{buffers, outcomeOf, refusalOf, earlyRefusal, loanRefusal, laterRefusal, Passed, BothPasses, Ends};
+
+// The answer: how many rows and errors there are, or why the module is turned back and where.
+pub enum Answer {
+    Accepted { rows: u32, errors: usize },
+    Refused { number: u32, place: usize },
+}
+
+// The outcome of the tests before the check.
+enum Refusal {
+    Never,
+    Because { number: u32, place: usize },
+}
+
+// The words of the rows that every table begins with.
+const FIXED_WORDS: usize = 28;
+
+// Where the record of the names starts, and how many levels are left for an item.
+const NAMES: usize = 16;
+
+const ITEM_DEPTH: usize = 63;
+
+// Words of an error.
+const ERROR_WIDTH: usize = 7;
+
+// Test 5: the output is shorter than the input, or there are too few working words.
+fn loan_refusal(input: &[u8], output: usize, work: usize) -> Refusal
+    ensures { λ r. ⌜ refusalOf r ≡ loanRefusal (now (input .entry)) output work ⌝ }
+{
+    let names = name_count(input);
+    if output < input.len() {
+        return Refusal::Because {
+            number: 5,
+            place: 0,
+        };
+    }
+    if work < WORK_WIDTH * (names as usize) {
+        return Refusal::Because {
+            number: 5,
+            place: 0,
+        };
+    }
+    Refusal::Never
+}
+
+// Tests 4 and 5.
+fn name_refusal(input: &[u8], output: usize, work: usize) -> Refusal
+    ensures { λ r. ⌜ refusalOf r ≡ laterRefusal (now (input .entry)) output work ⌝ }
+{
+    let repeated = repeated_name(input);
+    match repeated {
+        Repeated::Nowhere => loan_refusal(input, output, work),
+        Repeated::At(place) => Refusal::Because { number: 4, place },
+    }
+}
+
+// Tests 1 to 5: why the module is turned back before anything is written.
+fn early_refusal(input: &[u8], output: usize, work: usize) -> Refusal
+    ensures { λ r. ⌜ refusalOf r ≡ earlyRefusal (now (input .entry)) output work ⌝ }
+{
+    let layout = check_layout(input);
+    match layout {
+        Layout::Good => name_refusal(input, output, work),
+        Layout::TooLong => Refusal::Because {
+            number: 1,
+            place: 0,
+        },
+        Layout::Fault(place) => Refusal::Because { number: 2, place },
+        Layout::TooDeep(place) => Refusal::Because { number: 3, place },
+    }
+}
+
+// Sets the first `count` words to 0.
+fn clear_words(words: &mut [u32], count: usize)
+    requires { ⌜ count ≤ length (now words) ⌝ }
+    ensures { λ _. ⌜ now (words .exit) ≡ cleared count (now (words .entry)) ⌝ }
+{
+    let mut i: usize = 0;
+    while i < count {
+        words[i] = 0;
+        i += 1;
+    }
+}
+
+// Sets the first `count` bytes to 0.
+fn clear_bytes(bytes: &mut [u8], count: usize)
+    requires { ⌜ count ≤ length (now bytes) ⌝ }
+    ensures { λ _. ⌜ now (bytes .exit) ≡ cleared count (now (bytes .entry)) ⌝ }
+{
+    let mut i: usize = 0;
+    while i < count {
+        bytes[i] = 0;
+        i += 1;
+    }
+}
+
+// The output begins as a copy of the input.
+fn copy_bytes(input: &[u8], output: &mut [u8])
+    requires { ⌜ length (now input) ≤ length (now output) ⌝ }
+    ensures { λ _. ⌜ now (output .exit) ≡ now (input .entry) ++ drop (length (now (input .entry))) (now (output .entry)) ⌝ }
+{
+    let mut i: usize = 0;
+    while i < input.len() {
+        output[i] = input[i];
+        i += 1;
+    }
+}
+
+// Both passes, with working words that are all 0. Where not even the fixed rows find room, nothing is done.
+fn both_passes(
+    input: &[u8],
+    output: &mut [u8],
+    rows: &mut [u32],
+    errors: &mut [u32],
+    work: &mut [u32],
+) -> State
+    requires { ⌜ Passed (now input) (length (now output)) (length (now work)) ⌝ }
+    requires { ⌜ now output ≡ now input ++ drop (length (now input)) (now output) ⌝ }
+    requires { ⌜ now work ≡ replicate (workWidth * nameCount (now input)) 0 ⌝ }
+    ensures { λ r. ⌜ BothPasses (now (input .entry)) (buffers (now (output .entry)) (now (rows .entry)) (now (errors .entry)) (now (work .entry))) (buffers (now (output .exit)) (now (rows .exit)) (now (errors .exit)) (now (work .exit))) r ⌝ }
+{
+    if rows.len() < FIXED_WORDS {
+        return State {
+            errors: 0,
+            rows: 0,
+            full: true,
+        };
+    }
+    types::put_fixed_rows(rows);
+    let names = built_ins(input);
+    let from = NAMES + length_at(input, NAMES);
+    let end = input.len();
+    let start = State {
+        errors: 0,
+        rows: 7,
+        full: false,
+    };
+    let declared = declare_items(
+        input,
+        names,
+        work,
+        from,
+        end,
+        ITEM_DEPTH,
+        output,
+        errors,
+        rows,
+        start,
+    );
+    type_check_items(
+        input,
+        names,
+        work,
+        from,
+        end,
+        ITEM_DEPTH,
+        output,
+        errors,
+        rows,
+        declared,
+    )
+}
+
+// Refusals 6 and 7 leave zeros.
+fn wipe(count: usize, output: &mut [u8], rows: &mut [u32], errors: &mut [u32])
+    requires { ⌜ count ≤ length (now output) ⌝ }
+    ensures { λ _. ⌜ now (output .exit) ≡ cleared count (now (output .entry)) ⌝ }
+    ensures { λ _. ⌜ now (rows .exit) ≡ cleared (length (now (rows .entry))) (now (rows .entry)) ⌝ }
+    ensures { λ _. ⌜ now (errors .exit) ≡ cleared (length (now (errors .entry))) (now (errors .entry)) ⌝ }
+{
+    clear_bytes(output, count);
+    let row_words = rows.len();
+    clear_words(rows, row_words);
+    let error_words = errors.len();
+    clear_words(errors, error_words);
+}
+
+// Tests 6 and 7, after both passes.
+fn run(
+    input: &[u8],
+    output: &mut [u8],
+    rows: &mut [u32],
+    errors: &mut [u32],
+    work: &mut [u32],
+) -> Answer
+    requires { ⌜ Passed (now input) (length (now output)) (length (now work)) ⌝ }
+    requires { ⌜ length (now work) ≡ workWidth * nameCount (now input) ⌝ }
+    ensures { λ r. ⌜ Ends (now (input .entry)) (buffers (now (output .entry)) (now (rows .entry)) (now (errors .entry)) (now (work .entry))) (buffers (now (output .exit)) (now (rows .exit)) (now (errors .exit)) (now (work .exit))) (outcomeOf r) ⌝ }
+{
+    let words = work.len();
+    clear_words(work, words);
+    copy_bytes(input, output);
+    let last = both_passes(input, output, rows, errors, work);
+    clear_words(work, words);
+    if last.full {
+        wipe(input.len(), output, rows, errors);
+        return Answer::Refused {
+            number: 6,
+            place: 0,
+        };
+    }
+    let room = errors.len() / ERROR_WIDTH;
+    if room < last.errors {
+        wipe(input.len(), output, rows, errors);
+        return Answer::Refused {
+            number: 7,
+            place: 0,
+        };
+    }
+    Answer::Accepted {
+        rows: last.rows,
+        errors: last.errors,
+    }
+}
+
+// Checks a module. The output gets the module with its slots filled; the rows, the errors and the counts are the answer. Nothing is asked of
+// the caller: what is lent too short is refused.
+pub fn type_check_module(
+    input: &[u8],
+    output: &mut [u8],
+    rows: &mut [u32],
+    errors: &mut [u32],
+    work: &mut [u32],
+) -> Answer
+    ensures { λ r. ⌜ Checked (now (input .entry)) (buffers (now (output .entry)) (now (rows .entry)) (now (errors .entry)) (now (work .entry))) (buffers (now (output .exit)) (now (rows .exit)) (now (errors .exit)) (now (work .exit))) (outcomeOf r) ⌝ }
+{
+    let refusal = early_refusal(input, output.len(), work.len());
+    match refusal {
+        Refusal::Because { number, place } => Answer::Refused { number, place },
+        Refusal::Never => {
+            let names = name_count(input);
+            let words = WORK_WIDTH * (names as usize);
+            run(input, output, rows, errors, &mut work[..words])
+        }
+    }
+}
