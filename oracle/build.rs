@@ -2,7 +2,7 @@
 //!
 //! It writes `modules.rs`, a list of module declarations, into the output folder. The intermediate representation's
 //! `mod.rs` declares files that are not published; so it and `stmt.rs` are put, byte for byte, into the output folder
-//! next to the stubs of those files.
+//! next to the stubs of those files. If `DELTA_NULL_LIB` names a static library, it is linked as the product.
 
 use std::{
     env, fs,
@@ -43,6 +43,19 @@ fn main() {
         package.join("src/inside.rs"),
     );
     fs::write(out.join("modules.rs"), text).unwrap();
+    link_product();
+}
+
+/// Links the static library that `DELTA_NULL_LIB` names, if it is set: the checker under test.
+fn link_product() {
+    println!("cargo:rerun-if-env-changed=DELTA_NULL_LIB");
+    println!("cargo:rustc-check-cfg=cfg(linked)");
+    let Ok(library) = env::var("DELTA_NULL_LIB") else { return };
+    let library = fs::canonicalize(library).expect("DELTA_NULL_LIB names no file");
+    let name = library.file_stem().unwrap().to_str().unwrap().strip_prefix("lib").expect("a file libNAME.a");
+    println!("cargo:rustc-link-search=native={}", watched(&library).parent().unwrap().display());
+    println!("cargo:rustc-link-lib=static={name}");
+    println!("cargo:rustc-cfg=linked");
 }
 
 /// The declaration of one reference file as a module of the crate.

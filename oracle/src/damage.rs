@@ -1,7 +1,7 @@
 //! Damaged copies of module files.
 
 use crate::{
-    layout::{self, MOST_BYTES, MOST_DEPTH, Record},
+    layout::{self, Field, HEAD, MOST_BYTES, MOST_DEPTH, Record},
     tree::Random,
 };
 
@@ -60,7 +60,126 @@ pub fn damaged(bytes: &[u8], seed: u64) -> Vec<u8> {
     damage.bytes
 }
 
+/// A copy of a file with one thing wrong, or just not wrong, in a record of a kind drawn from those in the file: a field at
+/// the edge of what it may be, a length, a kind, a record left out, bytes left over.
+pub fn spoiled(bytes: &[u8], seed: u64) -> Vec<u8> {
+    let mut damage = Damage { bytes: bytes.to_vec(), records: flat_records(bytes), random: Random::new(seed) };
+    if !damage.records.is_empty() {
+        damage.spoil();
+    }
+    damage.bytes
+}
+
+/// Every plain fault of the first record of a kind in a good file, each with its name: fields at the edges of what they may be,
+/// lengths, kinds, the record left out, bytes left over. A few of the files are good.
+pub fn each_fault(bytes: &[u8], kind: u16) -> Vec<(String, Vec<u8>)> {
+    let records = flat_records(bytes);
+    let record = records.iter().find(|record| record.kind == kind).expect("a record of the kind").clone();
+    let names = records.iter().filter(|record| record.kind == 3).count() as u32;
+    let good = Damage { bytes: bytes.to_vec(), records, random: Random::new(0) };
+    let with = |change: &dyn Fn(&mut Damage)| {
+        let mut copy = Damage { bytes: good.bytes.clone(), records: vec![], random: Random::new(0) };
+        change(&mut copy);
+        copy.bytes
+    };
+    let mut all = vec![];
+    for (i, field) in layout::shape(kind).0.iter().enumerate() {
+        let values = match *field {
+            Field::Slot => vec![1, 1 << 24],
+            Field::Name => vec![names, 1 << 16],
+            Field::Any => vec![u32::MAX],
+            Field::Between(low, high) => vec![low.wrapping_sub(1), low, high, high + 1],
+        };
+        for value in values {
+            all.push((
+                format!("field {i} is {value}"),
+                with(&|copy| copy.set_word(record.place + HEAD + 4 * i, value)),
+            ));
+        }
+    }
+    for length in [0, HEAD - 1, HEAD + 4 * record.fields - 1, record.length - 1, record.length + 1] {
+        all.push((format!("length {length}"), with(&|copy| copy.set_word(record.place, length as u32))));
+    }
+    for other in [0, 4, 15, 22, 31, 48, 51, 63, 75, 79, 86] {
+        let place = record.place + 4;
+        all.push((format!("kind {other}"), with(&|copy| copy.bytes[place..place + 2].copy_from_slice(&[other, 0]))));
+    }
+    let within = [&record.holders[..], &[record.place]].concat();
+    let end = record.place + record.length;
+    all.push(("left out".to_owned(), with(&|copy| copy.splice(&record.holders, record.place, record.length, &[]))));
+    all.push((
+        "cut after its fields".to_owned(),
+        with(&|copy| {
+            let body = record.place + HEAD + 4 * record.fields;
+            copy.splice(&within, body, end - body, &[]);
+        }),
+    ));
+    all.push(("a byte left over".to_owned(), with(&|copy| copy.splice(&within, end, 0, &[0]))));
+    all.push(("a byte after it".to_owned(), with(&|copy| copy.splice(&record.holders, end, 0, &[0]))));
+    all.push((
+        "twice".to_owned(),
+        with(&|copy| {
+            let same = copy.bytes[record.place..end].to_vec();
+            copy.splice(&record.holders, end, 0, &same);
+        }),
+    ));
+    all
+}
+
 impl Damage {
+    fn spoil(&mut self) {
+        let mut kinds: Vec<u16> = self.records.iter().map(|record| record.kind).collect();
+        kinds.sort();
+        kinds.dedup();
+        let kind = *self.random.pick(&kinds);
+        let of_kind: Vec<Flat> = self.records.iter().filter(|record| record.kind == kind).cloned().collect();
+        let record = self.random.pick(&of_kind).clone();
+        let end = record.place + record.length;
+        match self.random.below(8) {
+            0..=2 if record.fields > 0 => {
+                let field = self.random.below(record.fields);
+                let value = self.edge(layout::shape(kind).0[field]);
+                self.set_word(record.place + HEAD + 4 * field, value);
+            }
+            3 => {
+                let shortest = HEAD + 4 * record.fields;
+                let length =
+                    *self.random.pick(&[0, HEAD - 1, shortest - 1, shortest, record.length - 1, record.length + 1]);
+                self.set_word(record.place, length as u32);
+            }
+            4 => {
+                let all: Vec<u16> = (0..90).collect();
+                let other = *self.random.pick(&all);
+                self.bytes[record.place + 4..record.place + 6].copy_from_slice(&other.to_le_bytes());
+            }
+            5 => self.splice(&record.holders, record.place, record.length, &[]),
+            6 => {
+                let new = self.some_bytes(17);
+                let within = [&record.holders[..], &[record.place]].concat();
+                self.splice(&within, end, 0, &new);
+            }
+            _ => {
+                let place = self.random.between(record.place + HEAD, end);
+                let within = [&record.holders[..], &[record.place]].concat();
+                self.splice(&within, place, end - place, &[]);
+            }
+        }
+    }
+
+    /// A value at the edge of what a field may be, on either side.
+    fn edge(&mut self, field: Field) -> u32 {
+        let names = self.records.iter().filter(|record| record.kind == 3).count() as u32;
+        let far = *self.random.pick(&[1 << 8, 1 << 16, 1 << 24, u32::MAX]);
+        match field {
+            Field::Slot => *self.random.pick(&[1, far]),
+            Field::Name => *self.random.pick(&[names.wrapping_sub(1), names, names + 1, far]),
+            Field::Any => far,
+            Field::Between(low, high) => {
+                *self.random.pick(&[low.wrapping_sub(1), low, high, high + 1, high.wrapping_add(far)])
+            }
+        }
+    }
+
     fn word(&self, place: usize) -> u32 {
         u32::from_le_bytes(self.bytes[place..place + 4].try_into().unwrap())
     }

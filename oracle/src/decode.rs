@@ -17,6 +17,8 @@ type Decoded<T> = Result<T, Undecodable>;
 /// The names of a module as texts.
 pub struct Decoder {
     pub names: Vec<String>,
+    /// Whether a place has its file, which costs the reference a copy of a path wherever it copies a place.
+    pub with_files: bool,
 }
 
 fn text(bytes: &[u8]) -> Decoded<String> {
@@ -31,7 +33,14 @@ pub fn location(at: Place) -> SourceLocation {
 
 impl Decoder {
     pub fn new(module: &Module) -> Decoded<Self> {
-        Ok(Decoder { names: module.names.iter().map(|name| text(name)).collect::<Decoded<_>>()? })
+        Ok(Decoder { names: module.names.iter().map(|name| text(name)).collect::<Decoded<_>>()?, with_files: true })
+    }
+
+    fn location(&self, at: Place) -> SourceLocation {
+        if self.with_files {
+            return location(at);
+        }
+        SourceLocation::new(SourceInputType::buffer(), at.line as usize, at.column as usize)
     }
 
     pub fn module(&self, module: &Module) -> Decoded<node::Module> {
@@ -61,7 +70,7 @@ impl Decoder {
             },
             _ => TopLevelItemKind::InlineAssembly(text(&record.bytes)?),
         };
-        Ok(TopLevelItem::new(kind, location(record.at)))
+        Ok(TopLevelItem::new(kind, self.location(record.at)))
     }
 
     fn function(&self, record: &Record) -> Decoded<TopLevelItemKind<(), node::Type>> {
@@ -90,7 +99,7 @@ impl Decoder {
                 record.children.iter().map(|field| (self.name(field.fields[0]), self.ty(&field.children[0]))).collect(),
             ),
         };
-        node::Type::new(kind, location(record.at))
+        node::Type::new(kind, self.location(record.at))
     }
 
     fn initial_value(&self, record: &Record) -> Decoded<DeclarationInitialValue> {
@@ -109,11 +118,11 @@ impl Decoder {
         } else {
             let field = |field: &Record| {
                 let value = self.expression(&field.children[0])?;
-                Ok(CompoundField::new(self.name(field.fields[0]), value, location(field.at)))
+                Ok(CompoundField::new(self.name(field.fields[0]), value, self.location(field.at)))
             };
             CompoundKind::Struct(record.children.iter().map(field).collect::<Decoded<_>>()?)
         };
-        Ok(Compound::new(kind, location(record.at)))
+        Ok(Compound::new(kind, self.location(record.at)))
     }
 
     fn statement(&self, record: &Record) -> Decoded<Statement> {
@@ -145,7 +154,7 @@ impl Decoder {
             },
             _ => StatementKind::InlineAssembly(text(&record.bytes)?),
         };
-        Ok(Statement::new(kind, location(record.at)))
+        Ok(Statement::new(kind, self.location(record.at)))
     }
 
     fn expression(&self, record: &Record) -> Decoded<Expression> {
@@ -171,7 +180,7 @@ impl Decoder {
             46 => ExpressionKind::ComparisonBinOp(COMPARISON[record.fields[1] as usize - 1], inner(0)?, inner(1)?),
             _ => ExpressionKind::Sizeof(self.ty(&record.children[0])),
         };
-        Ok(Expression::new(kind, location(record.at)))
+        Ok(Expression::new(kind, self.location(record.at)))
     }
 }
 

@@ -66,7 +66,8 @@ pub enum Allowed {
 }
 
 impl Allowed {
-    fn has(self, kind: u16) -> bool {
+    /// Whether a record of the kind is one of them.
+    pub fn has(self, kind: u16) -> bool {
         match self {
             Allowed::One(only) => kind == only,
             Allowed::Type => (16..=20).contains(&kind),

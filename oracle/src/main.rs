@@ -10,11 +10,13 @@ use std::{
 
 use oracle::{
     answer::{Answer, refusal_text},
-    buffers, damage, generate,
+    buffers,
+    compare::{self, first_difference},
+    damage, generate,
     layout::{self, Module},
     model,
     reference::{self, MOST_WORK, Silence},
-    relate, shuffle,
+    relate, replay, shuffle,
     stats::Stats,
 };
 
@@ -29,6 +31,8 @@ const USAGE: &str = "usage:
   oracle render INPUT OUTPUT ROWS ERRORS
   oracle tables SEED COUNT DIR
   oracle relate ROWS..
+  oracle compare SEED COUNT PRODUCT DIR
+  oracle replay ACCEPTED REFUSED DATA NAMES
 A folder among FILES stands for the files in it.";
 
 /// How long the reference may think about one module.
@@ -57,6 +61,8 @@ fn main() -> ExitCode {
         ["render", input, output, rows, errors] => render(input, output, rows, errors),
         ["tables", seed, count, folder] => tables(seed, count, folder),
         ["relate", ref files @ ..] if !files.is_empty() => related(files),
+        ["compare", seed, count, program, folder] => compared(seed, count, program, folder),
+        ["replay", accepted, refused, data, names] => replayed(accepted, refused, data, names),
         _ => Err(USAGE.to_owned()),
     };
     done.unwrap_or_else(|message| {
@@ -184,17 +190,7 @@ fn selfcheck(files: &[&str]) -> Done {
 
 /// The first line in which the reference's answer and the model's differ.
 fn difference(reference: &Answer, model: &Answer) -> Option<String> {
-    let (reference, model) = (reference.text(), model.text());
-    if reference == model {
-        return None;
-    }
-    let (mut left, mut right) = (reference.lines(), model.lines());
-    loop {
-        match (left.next(), right.next()) {
-            (a, b) if a != b => return Some(format!("reference {a:?}, model {b:?}")),
-            _ => {}
-        }
-    }
+    first_difference("reference", &reference.text(), "model", &model.text())
 }
 
 fn generated(seed: &str, count: &str, folder: &str, class: &str) -> Done {
@@ -260,4 +256,20 @@ fn related(files: &[&str]) -> Done {
         None => Ok("refused 8 at 0\n".to_owned()),
         Some(rows) => relate::relations(&rows).map_err(|e| format!("{}: {e}", path.display())),
     })
+}
+
+fn compared(seed: &str, count: &str, program: &str, folder: &str) -> Done {
+    let (differences, text) =
+        compare::compare(number(seed)?, number(count)? as usize, Path::new(program), Path::new(folder))?;
+    print!("{text}");
+    Ok(if differences == 0 { ExitCode::SUCCESS } else { ExitCode::FAILURE })
+}
+
+/// Writes the cases of the replay and their names; prints what the program `replay` has to print.
+fn replayed(accepted: &str, refused: &str, data: &str, names: &str) -> Done {
+    let replay = replay::replay(number(accepted)? as usize, number(refused)? as usize)?;
+    write(data, &replay.bytes)?;
+    write(names, (replay.names.join("\n") + "\n").as_bytes())?;
+    println!("good {} refused {} differ 0", replay.accepted, replay.refused());
+    Ok(ExitCode::SUCCESS)
 }

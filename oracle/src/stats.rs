@@ -4,7 +4,7 @@ use std::collections::BTreeMap;
 
 use crate::{
     answer::Answer,
-    layout::{self, Record},
+    layout::{self, Module, Record, Refusal},
     model,
 };
 
@@ -27,22 +27,27 @@ const KINDS: [std::ops::RangeInclusive<u16>; 5] = [1..=3, 16..=21, 32..=50, 64..
 
 impl Stats {
     pub fn add(&mut self, bytes: &[u8]) {
+        match layout::read(bytes) {
+            Err(refusal) => self.add_refused(bytes, refusal),
+            Ok(module) => self.add_good(bytes, &module, &model::check(&module).answer),
+        }
+    }
+
+    pub fn add_refused(&mut self, bytes: &[u8], refusal: Refusal) {
         self.files += 1;
         self.bytes += bytes.len();
-        let module = match layout::read(bytes) {
-            Err(refusal) => {
-                *self.refusals.entry(refusal.number).or_default() += 1;
-                return;
-            }
-            Ok(module) => module,
-        };
+        *self.refusals.entry(refusal.number).or_default() += 1;
+    }
+
+    pub fn add_good(&mut self, bytes: &[u8], module: &Module, answer: &Answer) {
+        self.files += 1;
+        self.bytes += bytes.len();
         *self.records.entry(1).or_default() += 1;
         let mut depth = 1;
         for record in std::iter::once(&module.list).chain(&module.items) {
             depth = depth.max(1 + self.count(record));
         }
-        let answer = model::check(&module).answer;
-        self.count_answer(&answer);
+        self.count_answer(answer);
         for (most, value) in self.most.iter_mut().zip([bytes.len(), depth, answer.rows.count(), answer.errors.len()]) {
             *most = (*most).max(value);
         }
@@ -63,11 +68,22 @@ impl Stats {
         self.past_errors += usize::from(answer.errors.len() > 2_000);
     }
 
+    /// The record kinds and error kinds that no module had, and the greatest module in each respect.
+    pub fn missing(&self) -> String {
+        let kinds: Vec<u16> = KINDS.into_iter().flatten().filter(|kind| !self.records.contains_key(kind)).collect();
+        let errors: Vec<u32> = (1..=29).filter(|kind| !self.errors.contains_key(kind)).collect();
+        format!("{}\nnever met: record kinds {kinds:?}, error kinds {errors:?}\n", self.greatest())
+    }
+
+    fn greatest(&self) -> String {
+        let [size, depth, rows, errors] = self.most;
+        format!("most: bytes {size} depth {depth} rows {rows} errors {errors}")
+    }
+
     pub fn text(&self) -> String {
         let refused: usize = self.refusals.values().sum();
         let mut text = format!("files {} bytes {} accepted {}\n", self.files, self.bytes, self.files - refused);
-        let [size, depth, rows, errors] = self.most;
-        text += &format!("most: bytes {size} depth {depth} rows {rows} errors {errors}\n");
+        text += &(self.greatest() + "\n");
         text += &format!(
             "without errors {}, past 3000 rows {}, past 2000 errors {}\n",
             self.without_errors, self.past_rows, self.past_errors

@@ -1,6 +1,6 @@
 //! Records to be written, and a generator of numbers from a seed.
 
-use crate::layout::{HEAD, Place};
+use crate::layout::{HEAD, Place, Record};
 
 /// A record to be written.
 #[derive(Clone, Debug)]
@@ -28,6 +28,12 @@ impl Tree {
         let mut children = vec![Tree::new(2, at, &[], names)];
         children.extend(items);
         Tree::new(1, at, &[], children)
+    }
+
+    /// A record that was read.
+    pub fn of(record: &Record) -> Self {
+        let children = record.children.iter().map(Tree::of).collect();
+        Tree { kind: record.kind, at: record.at, fields: record.fields.clone(), children, bytes: record.bytes.clone() }
     }
 
     /// The length of the record in bytes.

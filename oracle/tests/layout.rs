@@ -115,10 +115,10 @@ fn fields() {
         format!("refused 2 at {}", type_at + 16)
     );
     assert_eq!(
-        verdict(&module(vec![global(X, record(16, &[0, 10], vec![]))])),
+        verdict(&module(vec![global(X, record(16, &[0, NAMES.len() as u32], vec![]))])),
         format!("refused 2 at {}", type_at + 20)
     );
-    assert_eq!(verdict(&module(vec![global(10, ty(U16))])), format!("refused 2 at {}", start + 16));
+    assert_eq!(verdict(&module(vec![global(NAMES.len() as u32, ty(U16))])), format!("refused 2 at {}", start + 16));
     assert_eq!(verdict(&module(vec![alias(A, 4, ty(U16))])), format!("refused 2 at {}", start + 20));
     assert_eq!(verdict(&module(vec![alias(A, 3, ty(U16))])), "accepted");
     let value_at = type_at + 24;

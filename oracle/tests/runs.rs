@@ -2,17 +2,14 @@
 
 mod common;
 
-use std::{collections::HashSet, time::Duration};
+use std::time::Duration;
 
 use oracle::{
-    answer::{Answer, Operand, texts},
-    buffers, damage, generate,
-    layout::{self, Module, Record},
-    model, reference, relate, shuffle,
+    answer::Operand, buffers, compare, damage, generate, hand, layout, model, orders, reference, relate, shrink,
 };
 
 /// Compares the two checkers on a file, unless the reference is silent on it.
-fn compare(bytes: &[u8], label: &str) {
+fn compare_both(bytes: &[u8], label: &str) {
     let Ok(module) = layout::read(bytes) else { return };
     let outcome = model::check(&module);
     if outcome.work > reference::MOST_WORK {
@@ -30,7 +27,7 @@ fn every_class() {
         for seed in 0..40 {
             let bytes = generate::module(class, seed);
             assert!(layout::read(&bytes).is_ok(), "{class} {seed}");
-            compare(&bytes, &format!("{class} {seed}"));
+            compare_both(&bytes, &format!("{class} {seed}"));
         }
     }
 }
@@ -39,7 +36,7 @@ fn every_class() {
 fn damaged_copies() {
     for seed in 0..400 {
         let copy = damage::damaged(&generate::module("mixed", seed), seed);
-        compare(&copy, &format!("{seed}"));
+        compare_both(&copy, &format!("{seed}"));
     }
 }
 
@@ -55,92 +52,17 @@ fn row_tables() {
     let _ = std::panic::take_hook();
 }
 
-/// The names in the declared types of an item.
-fn named_in(record: &Record, into: &mut HashSet<u32>) {
-    match record.kind {
-        16 => {
-            into.insert(record.fields[1]);
-        }
-        18..=21 | 85 => record.children.iter().for_each(|child| named_in(child, into)),
-        _ => {}
-    }
-}
-
-/// Whether demand 3 speaks of a module in its order: no name declared twice, aliases before the items that name them.
-fn well_ordered(module: &Module) -> bool {
-    let stored = |item: &Record| item.kind == 81 && item.fields[1] < 2;
-    let mut globals = HashSet::new();
-    let mut aliases = HashSet::new();
-    let all: HashSet<u32> = module.items.iter().filter(|item| stored(item)).map(|item| item.fields[0]).collect();
-    for item in &module.items {
-        let mut named = HashSet::new();
-        item.children.iter().for_each(|child| named_in(child, &mut named));
-        if named.iter().any(|name| all.contains(name) && !aliases.contains(name)) {
-            return false;
-        }
-        let fresh = match item.kind {
-            80 | 83 => globals.insert(item.fields[0]),
-            81 if stored(item) => aliases.insert(item.fields[0]),
-            _ => true,
-        };
-        if !fresh {
-            return false;
-        }
-    }
-    true
-}
-
-/// The errors with their types unfolded, sorted.
-fn error_texts(answer: &Answer) -> Vec<String> {
-    let texts = texts(&answer.rows);
-    let operand = |operand: Operand| match operand {
-        Operand::Number(number) => number.to_string(),
-        Operand::Row(row) => texts[row as usize - 1].clone(),
-    };
-    let mut all: Vec<String> = answer
-        .errors
-        .iter()
-        .map(|error| format!("{} {:?} {}", error.kind, error.at, error.operands.map(operand).join(" ")))
-        .collect();
-    all.sort();
-    all
-}
-
-/// An item's bytes with the types of its slots, unfolded, by their places in the item.
-type ItemText = (Vec<u8>, Vec<(usize, String)>);
-
-/// The items of a module, sorted.
-fn item_texts(module: &Module, bytes: &[u8], answer: &Answer) -> Vec<ItemText> {
-    let texts = texts(&answer.rows);
-    let mut all = vec![];
-    for item in &module.items {
-        let within = item.place..item.place + item.length;
-        let mut slots: Vec<(usize, String)> = vec![];
-        for (place, row) in answer.slots.iter().filter(|slot| within.contains(&slot.0)) {
-            slots.push((place - item.place, texts[*row as usize - 1].clone()));
-        }
-        slots.sort();
-        all.push((bytes[within].to_vec(), slots));
-    }
-    all.sort();
-    all
-}
-
 #[test]
 fn another_order() {
     let mut compared = 0;
-    for seed in 0..3_000 {
+    for seed in 0..1_000 {
         let bytes = generate::module("mixed", seed);
-        let other = shuffle::shuffled(&bytes, seed).unwrap();
+        let Some(other) = orders::another_order(&bytes, seed) else { continue };
         let (one, two) = (layout::read(&bytes).unwrap(), layout::read(&other).unwrap());
-        if one.items.len() < 2 || !well_ordered(&one) || !well_ordered(&two) {
-            continue;
-        }
+        assert!(orders::is_supposed(&two));
         let (first, second) = (model::check(&one).answer, model::check(&two).answer);
-        assert_eq!(first.rows.count(), second.rows.count(), "{seed}");
-        assert_eq!(error_texts(&first), error_texts(&second), "{seed}");
-        assert_eq!(item_texts(&one, &bytes, &first), item_texts(&two, &other, &second), "{seed}");
-        compared += 1;
+        assert_eq!(orders::difference((&bytes, &first), (&other, &second)), None, "{seed}");
+        compared += usize::from(other != bytes);
     }
     assert!(compared > 100, "only {compared} modules could be compared");
 }
@@ -189,4 +111,39 @@ fn silence() {
     let module = layout::read(&bytes).unwrap();
     assert_eq!(reference::check(&module, Duration::from_secs(9)).unwrap_err(), reference::Silence::Undecodable);
     assert_eq!(model::check(&module).answer.report(7, 0), "rows 7 errors 0\n");
+}
+
+#[test]
+fn modules_by_hand() {
+    let mut kinds = std::collections::BTreeSet::new();
+    for case in hand::cases() {
+        let truth = compare::truth(&case.bytes).unwrap_or_else(|why| panic!("{}: {why}", case.name));
+        if let Ok((_, answer)) = &truth.outcome {
+            kinds.extend(answer.errors.iter().map(|error| error.kind));
+        }
+    }
+    assert!(kinds.into_iter().eq(1..=29));
+}
+
+#[test]
+fn shrinking() {
+    // A module with error 29 shrinks to a struct compound with a field twice and what must stand around it.
+    let has_29 = |bytes: &[u8]| {
+        let answer = layout::read(bytes).map(|module| model::check(&module).answer);
+        answer.is_ok_and(|answer| answer.errors.iter().any(|error| error.kind == 29))
+    };
+    let bytes = (0..).map(|seed| generate::module("structs", seed)).find(|bytes| has_29(bytes)).unwrap();
+    let small = shrink::smallest(&bytes, &mut { has_29 });
+    assert!(has_29(&small) && small.len() < 250, "{} bytes", small.len());
+}
+
+#[test]
+fn spoiled_copies() {
+    let mut refused = 0;
+    for seed in 0..300 {
+        let copy = damage::spoiled(&generate::module("tiny", seed), seed);
+        compare_both(&copy, &format!("{seed}"));
+        refused += usize::from(layout::read(&copy).is_err());
+    }
+    assert!(refused > 150);
 }

@@ -13,7 +13,7 @@ use native.Mathlib.Omega.{arith}
 use borrow.Author.Tests.{lt-leb, le-leb, eq-eqb, ne-eqb, eqb-true, eqb-false, not-true}
 use Rattle.node.specs.Bytes.{wordAt}
 use Rattle.node.specs.Shape.{pick}
-use Rattle.node.specs.Names.{stands, chain, namesEnd, NamesEnd, namePlaces, nameBytes, namesOf, nameCount, sameBytes, hashFrom, Hashed, isRepeated, isAmong, indexOf, numberOf, repeatIn, repeatedName, Following}
+use Rattle.node.specs.Names.{stands, chain, namesEnd, NamesEnd, namePlaces, nameBytes, namesOf, nameCount, sameBytes, markCount, hashFrom, Hashed, isRepeated, isAmong, indexOf, numberOf, repeatIn, repeatedName, Following}
 use Rattle.node.specs.declared.names.Repeated.the-variants.{Nowhere, At}
 
 none-follows : (s : List ℕ) (at end : ℕ) → stands s at end ≡ false → Following s at end at
@@ -171,7 +171,7 @@ module _ (a b : List ℕ) (i : ℕ) (k : Agreeing a b i) (l : length a ≡ lengt
 -- The bytes before `i` are in the hash
 pub record Hashing (t : List ℕ) (i h : ℕ) : Type 0 where
   pub inside : i ≤ length t
-  pub small : h < 65536
+  pub small : h < markCount
   pub rest : hashFrom 0 t ≡ hashFrom h (drop i t)
 
 pub hash-start : (t : List ℕ) → Hashing t 0 0
@@ -181,7 +181,7 @@ pub hash-done : (t : List ℕ) (i h : ℕ) → Hashing t i h → length t ≤ i 
 unfolding hashFrom
 hash-done t i h k p = record { is = sym (k .rest ∙ rw (drop-of-length-le t p)); small = k .small }
 
-pub hash-on : (t : List ℕ) (i h x : ℕ) → Hashing t i h → i < length t → x ≡ getD t i 0 → Hashing t (i + 1) ((h * 31 + x) % 65536)
+pub hash-on : (t : List ℕ) (i h x : ℕ) → Hashing t i h → i < length t → x ≡ getD t i 0 → Hashing t (i + 1) ((h * 31 + x) % markCount)
 unfolding hashFrom
 hash-on t i h x k p e = record { inside = omega arith; small = omega arith; rest = k .rest ∙ rw (drop-cons t i 0 p, add-one, e) }
 
@@ -356,10 +356,10 @@ or-false-true false e = e
 -- No name passed is equal to an earlier one, and the hash of each is marked
 pub record Marking (s : List ℕ) (end at count : ℕ) (marks : List ℕ) : Type 0 where
   pub differ : Differing s end at count
-  pub long : length marks ≡ 65536
+  pub long : length marks ≡ markCount
   pub set-at : (t : List ℕ) → isAmong t (map (nameBytes s) (differ .passed .before)) ≡ true → getD marks (hashFrom 0 t) 0 ≡ 1
 
-pub mark-start : (s : List ℕ) (end : ℕ) (marks : List ℕ) → NamesEnd s end → 20 ≤ length s → length marks ≡ 65536 → Marking s end 32 0 marks
+pub mark-start : (s : List ℕ) (end : ℕ) (marks : List ℕ) → NamesEnd s end → 20 ≤ length s → length marks ≡ markCount → Marking s end 32 0 marks
 unfolding differ-start passed-start isAmong
 mark-start s end marks e p l = record { differ = differ-start s end e p; long = l; set-at = λ t q. absurd (let z : _≡_ {A = ℕ} 0 1 = cc in omega arith) }
 

@@ -72,13 +72,16 @@ builtIns s =
     }
 
 -- a number for a text, the same for the same texts: it only spares the search for earlier names
+abbrev pub markCount : ℕ
+markCount = 16384
+
 unfoldable pub hashFrom : (start : ℕ) → List ℕ → ℕ
 hashFrom h [] = h
-hashFrom h (x ∷ t) = hashFrom ((h * 31 + x) % 65536) t
+hashFrom h (x ∷ t) = hashFrom ((h * 31 + x) % markCount) t
 
 pub record Hashed (t : List ℕ) (r : ℕ) : Type 0 where
   pub is : r ≡ hashFrom 0 t
-  pub small : r < 65536
+  pub small : r < markCount
 
 -- the text of the name of number `count` has a lower number too, and a mark
 abbrev pub isRepeated : List ℕ → (text : List ℕ) → (count mark : ℕ) → Bool

@@ -137,14 +137,17 @@ pub fn built_ins(s: &[u8]) -> BuiltIns
     }
 }
 
-// A number below 65,536 for a text.
+// How many marks there are for the hashes of names.
+const MARKS: usize = 16384;
+
+// A number below that for a text.
 fn hash(text: &[u8]) -> usize
     ensures { λ r. ⌜ Hashed (now (text .entry)) r ⌝ }
 {
     let mut h: usize = 0;
     let mut i: usize = 0;
     while i < text.len() {
-        h = (h * 31 + (byte(text, i) as usize)) % 65536;
+        h = (h * 31 + (byte(text, i) as usize)) % MARKS;
         i += 1;
     }
     h
@@ -168,7 +171,7 @@ pub fn repeated_name(s: &[u8]) -> Repeated
         return Repeated::Nowhere;
     }
     let end = names_end(s);
-    let mut marks = [0u8; 65536];
+    let mut marks = [0u8; MARKS];
     let mut at: usize = 32;
     let mut count: u32 = 0;
     loop {

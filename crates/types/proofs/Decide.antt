@@ -27,8 +27,8 @@ by-leb a b = record { yes = leb-true a b; no = λ e h. let l : b < a = leb-false
 
 -- Two rows, word by word
 module _ (a b : Words) where
-  pub unlike-kind : (a .kind ≡ b .kind → ⊥) → Decides (a ≡ b) false
-  unlike-kind ne = fails (λ e. ne (ap (λ (r : Words). r .kind) e))
+  pub unlike-name : (a .name ≡ b .name → ⊥) → Decides (a ≡ b) false
+  unlike-name ne = fails (λ e. ne (ap (λ (r : Words). r .name) e))
 
   pub unlike-first : (a .first ≡ b .first → ⊥) → Decides (a ≡ b) false
   unlike-first ne = fails (λ e. ne (ap (λ (r : Words). r .first) e))
@@ -36,11 +36,11 @@ module _ (a b : Words) where
   pub unlike-second : (a .second ≡ b .second → ⊥) → Decides (a ≡ b) false
   unlike-second ne = fails (λ e. ne (ap (λ (r : Words). r .second) e))
 
-  pub alike-name : a .kind ≡ b .kind → a .first ≡ b .first → a .second ≡ b .second → Decides (a ≡ b) (eqb (a .name) (b .name))
-  alike-name k f s =
-      likewise (a .name ≡ b .name) (a ≡ b) (eqb (a .name) (b .name)) (by-eqb (a .name) (b .name))
-      (λ n i. record { kind = k i; first = f i; second = s i; name = n i })
-      (ap (λ (r : Words). r .name))
+  pub alike-kind : a .second ≡ b .second → a .name ≡ b .name → a .first ≡ b .first → Decides (a ≡ b) (eqb (a .kind) (b .kind))
+  alike-kind s n f =
+      likewise (a .kind ≡ b .kind) (a ≡ b) (eqb (a .kind) (b .kind)) (by-eqb (a .kind) (b .kind))
+      (λ k i. record { kind = k i; first = f i; second = s i; name = n i })
+      (ap (λ (r : Words). r .kind))
 
 -- A type row
 module _ (w : List ℕ) (m v : ℕ) where

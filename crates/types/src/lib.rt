@@ -386,20 +386,20 @@ fn has_fixed_rows(rows: &[u32]) -> bool
     true
 }
 
-// Whether two rows have the same words.
+// Whether two rows have the same words. Rows behind the same part differ most often in the second word or the name.
 fn alike(a: Words, b: Words) -> bool
     ensures { λ r. ⌜ Decides (a ≡ b) r ⌝ }
 {
-    if a.kind != b.kind {
+    if a.second != b.second {
+        return false;
+    }
+    if a.name != b.name {
         return false;
     }
     if a.first != b.first {
         return false;
     }
-    if a.second != b.second {
-        return false;
-    }
-    a.name == b.name
+    a.kind == b.kind
 }
 
 // The row past row m that has these words, or 0.

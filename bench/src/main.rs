@@ -1,0 +1,180 @@
+//! How long the product, the reference and a bare walk take for the same modules. README.md says how to run it.
+
+mod modules;
+mod walk;
+
+use std::{
+    env,
+    hint::black_box,
+    path::Path,
+    process::ExitCode,
+    thread,
+    time::{Duration, Instant},
+};
+
+use oracle::{
+    decode::Decoder,
+    layout::{self, MOST_BYTES, Module},
+    product::Product,
+    type_check::type_check_module,
+};
+
+/// How long a round goes on, how many rounds there are at most, and how long all may take. The fastest counts: rounds are short,
+/// so that some are not disturbed by other work of the machine.
+const SPAN: Duration = Duration::from_millis(1);
+const ROUNDS: usize = 60;
+const ALL: Duration = Duration::from_millis(300);
+
+/// Nanoseconds for one turn in the fastest round, each of as many turns as fill the span.
+fn fastest(mut run: impl FnMut(u32) -> Duration) -> f64 {
+    let mut turns = 1;
+    while run(turns) < SPAN && turns < 1 << 20 {
+        turns *= 2;
+    }
+    let start = Instant::now();
+    let mut best = run(turns);
+    for _ in 1..ROUNDS {
+        if start.elapsed() > ALL {
+            break;
+        }
+        best = best.min(run(turns));
+    }
+    best.as_nanos() as f64 / f64::from(turns)
+}
+
+/// What a module costs, in nanoseconds.
+#[derive(Clone, Copy, Default)]
+struct Cost {
+    bytes: f64,
+    product: f64,
+    /// Tests 1 to 3 of the product alone.
+    layout: f64,
+    /// The reference with and without a file in each place, and from the records of the file on.
+    reference: f64,
+    without_files: f64,
+    decoded: f64,
+    walk: f64,
+}
+
+/// The product's time for a module. What asking costs is measured with two turns and taken off.
+fn timed(product: &mut Product, bytes: &[u8]) -> f64 {
+    let mut asked = |turns: u32| {
+        let before = Instant::now();
+        product.repeat(bytes, turns).expect("a product that answers");
+        before.elapsed()
+    };
+    let asking = (0..ROUNDS).map(|_| asked(2)).min().unwrap();
+    fastest(|turns| asked(turns + 2).saturating_sub(asking))
+}
+
+/// A file that is turned back after the whole walk: with a byte more, or, if that is one too many, with too long a last item.
+fn spoiled(bytes: &[u8], module: &Module) -> Vec<u8> {
+    if bytes.len() < MOST_BYTES {
+        return [bytes, &[0]].concat();
+    }
+    let last = module.items.last().expect("an item");
+    let mut out = bytes.to_vec();
+    out[last.place..last.place + 4].copy_from_slice(&(last.length as u32 + 1).to_le_bytes());
+    out
+}
+
+/// The reference's time for the check alone: trees are made before, and what it returns is freed after.
+fn timed_reference(module: &Module, with_files: bool) -> f64 {
+    let mut decoder = Decoder::new(module).expect("text");
+    decoder.with_files = with_files;
+    fastest(|turns| {
+        let trees: Vec<_> = (0..turns).map(|_| decoder.module(module).expect("text")).collect();
+        let mut kept = Vec::with_capacity(trees.len());
+        let before = Instant::now();
+        for tree in trees {
+            kept.push(black_box(type_check_module(tree)));
+        }
+        before.elapsed()
+    })
+}
+
+/// The reference's time from the records of the file on, freeing what it made.
+fn timed_decoded(module: &Module) -> f64 {
+    fastest(|turns| {
+        let before = Instant::now();
+        for _ in 0..turns {
+            let decoder = Decoder::new(black_box(module)).expect("text");
+            black_box(type_check_module(decoder.module(module).expect("text")));
+        }
+        before.elapsed()
+    })
+}
+
+fn cost(product: &mut Product, bytes: &[u8]) -> Cost {
+    let module = layout::read(bytes).expect("a good module");
+    Cost {
+        bytes: bytes.len() as f64,
+        product: timed(product, bytes),
+        layout: timed(product, &spoiled(bytes, &module)),
+        reference: timed_reference(&module, true),
+        without_files: timed_reference(&module, false),
+        decoded: timed_decoded(&module),
+        walk: fastest(|turns| {
+            let before = Instant::now();
+            for _ in 0..turns {
+                assert!(walk::is_good(black_box(bytes)));
+            }
+            before.elapsed()
+        }),
+    }
+}
+
+fn run(product: &Path, only: &str) -> Result<(), String> {
+    let mut product = Product::start(product)?;
+    println!(
+        "| class | bytes | product ns | ns a byte | its layout tests ns | bare walk ns | reference ns | ratio | without files | with decoding |"
+    );
+    println!("|---|---|---|---|---|---|---|---|---|---|");
+    for class in modules::classes().into_iter().filter(|class| class.name.starts_with(only)) {
+        let count = class.modules.len() as f64;
+        let mut sum = Cost::default();
+        for bytes in &class.modules {
+            let one = cost(&mut product, bytes);
+            sum.bytes += one.bytes;
+            sum.product += one.product;
+            sum.layout += one.layout;
+            sum.reference += one.reference;
+            sum.without_files += one.without_files;
+            sum.decoded += one.decoded;
+            sum.walk += one.walk;
+        }
+        println!(
+            "| {} | {:.0} | {:.0} | {:.2} | {:.0} | {:.0} | {:.0} | {:.1} | {:.1} | {:.1} |",
+            class.name,
+            sum.bytes / count,
+            sum.product / count,
+            sum.product / sum.bytes,
+            sum.layout / count,
+            sum.walk / count,
+            sum.reference / count,
+            sum.reference / sum.product,
+            sum.without_files / sum.product,
+            sum.decoded / sum.product,
+        );
+    }
+    Ok(())
+}
+
+fn main() -> ExitCode {
+    let Some(product) = env::args().nth(1) else {
+        eprintln!(
+            "usage: bench PRODUCT [CLASS]\nOnly classes whose names begin so; PRODUCT is `linked` or a program that answers as oracle/src/product.rs says"
+        );
+        return ExitCode::from(2);
+    };
+    let only = env::args().nth(2).unwrap_or_default();
+    // The reference recurses over types; its stack is as large as in the oracle.
+    let worker = thread::Builder::new().stack_size(1 << 30).spawn(move || run(Path::new(&product), &only));
+    match worker.expect("a thread").join().expect("no panic") {
+        Ok(()) => ExitCode::SUCCESS,
+        Err(message) => {
+            eprintln!("{message}");
+            ExitCode::from(2)
+        }
+    }
+}

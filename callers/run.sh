@@ -1,0 +1,27 @@
+#!/bin/sh
+# Builds the static library and the examples in C and Rust over it, and holds what they print of a module file, and of the file cut short,
+# to what is expected. Then the Rust crate's tests. Exits nonzero on a difference. Needs rt, cc and cargo on x86-64 Linux.
+set -eu
+cd "$(dirname "$0")/.."
+out=target/callers
+mkdir -p "$out"
+
+rt staticlib exports >"$out/staticlib.log" 2>&1 || { tail -5 "$out/staticlib.log"; exit 1; }
+cc -std=c11 -Wall -Wextra -Wpedantic -Werror -O2 -Iinclude callers/c/check_file.c target/staticlib/libexports.a -o "$out/check_file_c"
+cargo() { command cargo "$@" --quiet --offline --manifest-path callers/rust/Cargo.toml --target-dir "$out/rust"; }
+cargo build --release --example check_file
+
+# expect FILE EXPECTED: both examples print this of the file
+expect() {
+    for check in "$out/check_file_c" "$out/rust/release/examples/check_file"; do
+        "$check" "$1" >"$out/printed" || [ $? -eq 1 ]
+        diff "$2" "$out/printed" || { echo "callers: $check differs on $1"; exit 1; }
+    done
+}
+
+head -c 111 callers/example.module >"$out/short.module"
+echo 'refused 2 at 0' >"$out/short.expected"
+expect callers/example.module callers/example.expected
+expect "$out/short.module" "$out/short.expected"
+cargo test --release
+echo 'callers: ok'

@@ -1,0 +1,135 @@
+//! Each function, each of its refusals, and what each leaves in the parts lent.
+use delta_null_type_check::{Counts, Refused, WordSize};
+use delta_null_type_check::{assignable, castable, type_check_module, word_size};
+
+const MODULE: &[u8] = include_bytes!("../../example.module");
+
+/// The working words of its two names, and the place of its one slot.
+const WORK: usize = 8;
+const SLOT: usize = 104;
+
+struct Lent {
+    output: Vec<u8>,
+    rows: Vec<u32>,
+    errors: Vec<u32>,
+    work: Vec<u32>,
+}
+
+fn lend(output: usize, rows: usize, errors: usize, work: usize) -> Lent {
+    Lent { output: vec![9; output], rows: vec![9; rows], errors: vec![9; errors], work: vec![9; work] }
+}
+
+fn check(input: &[u8], lent: &mut Lent) -> Result<Counts, Refused> {
+    type_check_module(input, &mut lent.output, &mut lent.rows, &mut lent.errors, &mut lent.work)
+}
+
+fn refused<T>(number: u32, place: usize) -> Result<T, Refused> {
+    Err(Refused { number, place })
+}
+
+fn untouched(lent: &Lent) -> bool {
+    lent.output.iter().all(|&b| b == 9)
+        && [&lent.rows, &lent.errors, &lent.work].iter().all(|p| p.iter().all(|&w| w == 9))
+}
+
+#[test]
+fn module_accepted() {
+    let mut lent = lend(MODULE.len() + 1, 29, 15, WORK + 1);
+    assert_eq!(check(MODULE, &mut lent), Ok(Counts { rows: 7, errors: 2 }));
+    let mut output = MODULE.to_vec();
+    output[SLOT] = 1;
+    output.push(9);
+    assert_eq!(lent.output, output);
+    assert_eq!(lent.rows[20..], [6, 4, 0, 0, 11, 6, 0, 65535, 9]);
+    assert_eq!(lent.errors, [1, 0, 3, 8, 1, 0, 0, 1, 0, 3, 8, 1, 0, 0, 9]);
+    assert_eq!(lent.work, [0, 0, 0, 0, 0, 0, 0, 0, 9]);
+}
+
+#[test]
+fn module_refused_untouched() {
+    let mut twice = Vec::new();
+    for (length, kind) in [(64, 1), (48, 2), (16, 3), (16, 3)] {
+        twice.extend([length, 0, 0, 0, kind, 0, 0, 0, 0, 0, 0, 0, 0, 0, 0, 0]);
+    }
+    let (all, one_short) = (MODULE.len(), MODULE.len() - 1);
+    for (input, output, work, number, place) in [
+        (&[0; 65537][..], 65537, WORK, 1, 0),
+        (&[], 0, WORK, 2, 0),
+        (&MODULE[..one_short], all, WORK, 2, 0),
+        (&twice, all, WORK, 4, 48),
+        (MODULE, one_short, WORK, 5, 0),
+        (MODULE, all, WORK - 1, 5, 0),
+    ] {
+        let mut lent = lend(output, 28, 14, work);
+        assert_eq!(check(input, &mut lent), refused(number, place));
+        assert!(untouched(&lent));
+    }
+}
+
+#[test]
+fn module_refused_emptied() {
+    for (rows, errors, number) in [(27, 14, 6), (0, 0, 6), (28, 13, 7)] {
+        let mut lent = lend(MODULE.len() + 1, rows, errors, WORK + 1);
+        assert_eq!(check(MODULE, &mut lent), refused(number, 0));
+        let (last, first) = lent.output.split_last().unwrap();
+        assert!(*last == 9 && first.iter().all(|&b| b == 0));
+        assert!(lent.rows.iter().chain(&lent.errors).all(|&w| w == 0));
+        assert_eq!(lent.work, [0, 0, 0, 0, 0, 0, 0, 0, 9]);
+    }
+}
+
+/// The seven rows of every table, then `[4]u16`, `*[4]u16`, `[65536]u16` and an alias of u16 with name 0.
+const COUNT: u32 = 11;
+
+fn table() -> Vec<u32> {
+    [
+        [1, 0, 0, 0],
+        [2, 0, 0, 0],
+        [3, 0, 0, 0],
+        [4, 0, 0, 0],
+        [5, 0, 0, 0],
+        [6, 4, 0, 0],
+        [11, 6, 0, 65535],
+        [7, 4, 4, 0],
+        [6, 8, 0, 0],
+        [7, 4, 65536, 0],
+        [10, 4, 0, 0],
+    ]
+    .concat()
+}
+
+#[test]
+fn relations() {
+    let rows = table();
+    // `*[4]u16` to `*u16`, and back.
+    assert_eq!(assignable(&rows, COUNT, 6, 9), Ok(true));
+    assert_eq!(assignable(&rows, COUNT, 9, 6), Ok(false));
+    // A transparent alias of u16 to i16: neither.
+    assert_eq!(assignable(&rows, COUNT, 5, 11), Ok(false));
+    assert_eq!(castable(&rows, COUNT, 11, 5), Ok(false));
+    assert_eq!(castable(&rows, COUNT, 4, 5), Ok(true));
+    // String to u16, through its pointer.
+    assert_eq!(castable(&rows, COUNT, 7, 4), Ok(true));
+    for bad in [0, COUNT + 1] {
+        assert_eq!(assignable(&rows, COUNT, 4, bad), refused(8, 0));
+        assert_eq!(castable(&rows, COUNT, bad, 4), refused(8, 0));
+    }
+    assert_eq!(assignable(&rows, COUNT + 1, 4, 4), refused(8, 0));
+    assert_eq!(castable(&[], 0, 1, 1), refused(8, 0));
+}
+
+#[test]
+fn sizes() {
+    let rows = table();
+    let mut work = [9; COUNT as usize + 1];
+    for (n, size) in
+        [(1, WordSize::Unknown), (2, WordSize::Words(0)), (8, WordSize::Words(4)), (10, WordSize::TooLarge)]
+    {
+        assert_eq!(word_size(&rows, COUNT, n, &mut work), Ok(size));
+        assert_eq!(work, [65537, 0, 1, 1, 1, 1, 1, 4, 1, 65536, 1, 9]);
+    }
+    let mut work = [9; COUNT as usize];
+    assert_eq!(word_size(&rows, COUNT, 0, &mut work), refused(8, 0));
+    assert_eq!(word_size(&rows, COUNT, 4, &mut work[1..]), refused(5, 0));
+    assert_eq!(work, [9; COUNT as usize]);
+}

@@ -1,0 +1,148 @@
+// The entries for C and Rust callers: numbers and slices alone, a slice as a pointer and then a length. Each returns 0 if the call is
+// accepted, else the number of the refusal, and writes every value it answers through a `&mut`; a value that the answer has not is 0.
+// Nothing is asked of the caller but what `&` and `&mut` mean.
+use relations::Measured;
+use relations::WordSize;
+use type_check::Answer;
+ghost use mathlib.Core.Path.{_≡_};
+ghost use Rattle.types.specs.Table.{unfolded};
+ghost use Rattle.relations.specs.Relations.{typesAreAssignable, isCastableTo};
+ghost use Rattle.relations.specs.WordSize.{asWord};
+ghost use Rattle.relations.specs.Entry.{outcomeOf, measuredOf};
+ghost use Rattle.type_check.specs.Post.{buffers};
+ghost use Rattle.exports.specs.Replies.{ModuleTold, AnswerTold, SizeTold, told, numberOf, valueOf, asNumber};
+
+// What is written for a size that is no number of words, as in the working words.
+const TOO_LARGE: u32 = 65536;
+
+const UNKNOWN: u32 = 65537;
+
+// Checks a module: `type_check_module` of the crate type_check.
+#[no_mangle]
+pub extern "C" fn delta_null_type_check_module(
+    input: &[u8],
+    output: &mut [u8],
+    rows: &mut [u32],
+    errors: &mut [u32],
+    work: &mut [u32],
+    row_count: &mut u32,
+    error_count: &mut usize,
+    place: &mut usize,
+) -> u32
+    ensures { λ r. ⌜ ModuleTold (now (input .entry)) (buffers (now (output .entry)) (now (rows .entry)) (now (errors .entry)) (now (work .entry))) (buffers (now (output .exit)) (now (rows .exit)) (now (errors .exit)) (now (work .exit))) (told r (now («row_count» .exit)) (now («error_count» .exit)) (now (place .exit))) ⌝ }
+{
+    let answer = type_check::type_check_module(input, output, rows, errors, work);
+    match answer {
+        Answer::Accepted { rows, errors } => {
+            *row_count = rows;
+            *error_count = errors;
+            *place = 0;
+            0
+        }
+        Answer::Refused {
+            number,
+            place: found,
+        } => {
+            *row_count = 0;
+            *error_count = 0;
+            *place = found;
+            number
+        }
+    }
+}
+
+// Yes is 1, no is 0.
+fn yes_word(yes: bool) -> u32
+    ensures { λ r. ⌜ r ≡ asNumber yes ⌝ }
+{
+    if yes { 1 } else { 0 }
+}
+
+// The number of an answer of yes or no, which is written as 1 or 0.
+fn put_answer(given: relations::Answer, answer: &mut u32) -> u32
+    ensures { λ r. ⌜ (r ≡ numberOf (outcomeOf given)) × (now (answer .exit) ≡ valueOf asNumber (outcomeOf given)) ⌝ }
+{
+    match given {
+        relations::Answer::Is(yes) => {
+            *answer = yes_word(yes);
+            0
+        }
+        relations::Answer::Refused => {
+            *answer = 0;
+            8
+        }
+    }
+}
+
+// Whether the type of row source may be assigned to that of row target: 1 or 0.
+#[no_mangle]
+pub extern "C" fn delta_null_assignable(
+    rows: &[u32],
+    count: u32,
+    target: u32,
+    source: u32,
+    answer: &mut u32,
+) -> u32
+    ensures { λ r. ⌜ AnswerTold (now (rows .entry)) count target source (typesAreAssignable (unfolded (now (rows .entry)) target) (unfolded (now (rows .entry)) source)) r (now (answer .exit)) ⌝ }
+{
+    put_answer(relations::assignable(rows, count, target, source), answer)
+}
+
+// Whether the type of row source may be cast to that of row target: 1 or 0.
+#[no_mangle]
+pub extern "C" fn delta_null_castable(
+    rows: &[u32],
+    count: u32,
+    source: u32,
+    target: u32,
+    answer: &mut u32,
+) -> u32
+    ensures { λ r. ⌜ AnswerTold (now (rows .entry)) count source target (isCastableTo (unfolded (now (rows .entry)) source) (unfolded (now (rows .entry)) target)) r (now (answer .exit)) ⌝ }
+{
+    put_answer(relations::castable(rows, count, source, target), answer)
+}
+
+// A size as one word: the words, 65,536 for too large, 65,537 for Unknown inside.
+fn size_word(size: WordSize) -> u32
+    ensures { λ r. ⌜ r ≡ asWord size ⌝ }
+{
+    match size {
+        WordSize::Words(words) => words,
+        WordSize::TooLarge => TOO_LARGE,
+        WordSize::Unknown => UNKNOWN,
+    }
+}
+
+// The number of an answer of a size, which is written as one word.
+fn put_size(given: Measured, size: &mut u32) -> u32
+    ensures { λ r. ⌜ (r ≡ numberOf (measuredOf given)) × (now (size .exit) ≡ valueOf asWord (measuredOf given)) ⌝ }
+{
+    match given {
+        Measured::Size(found) => {
+            *size = size_word(found);
+            0
+        }
+        Measured::ShortLoan => {
+            *size = 0;
+            5
+        }
+        Measured::BadRows => {
+            *size = 0;
+            8
+        }
+    }
+}
+
+// How many words the type of row n has. One working word a row is lent, and holds the row's own size after.
+#[no_mangle]
+pub extern "C" fn delta_null_word_size(
+    rows: &[u32],
+    count: u32,
+    n: u32,
+    work: &mut [u32],
+    size: &mut u32,
+) -> u32
+    ensures { λ r. ⌜ SizeTold (now (rows .entry)) count n (now (work .entry)) (now (work .exit)) r (now (size .exit)) ⌝ }
+{
+    put_size(relations::words(rows, count, n, work), size)
+}

@@ -1,0 +1,115 @@
+-- `list_items`: what it has stored so far. Assumes nothing.
+use Prim.Native.Nat.{ℕ, suc, _+_, _-_, _*_, _≤_, _<_}
+use mathlib.Core.Path.{_≡_, refl, sym, _∙_, ap, subst}
+use mathlib.Core.Bool.{true, false}
+use mathlib.Core.List.{List, [], _∷_, _++_, append-nil}
+use native.Mathlib.Omega.{arith}
+use lib.ListN.{length, take, set, length-set}
+use lib.Seq.{take-suc-set, append-snoc}
+use borrow.Author.Tests.{lt-leb}
+use Rattle.node.specs.Bytes.{wordAt}
+use Rattle.node.specs.Shape.{aNames, anItem, dueIn}
+use Rattle.node.specs.Names.{stands, chain, itemPlaces}
+use Rattle.node.specs.Layout.{layoutOf, maxBytes}
+use Rattle.node.specs.Fine.{FineList}
+use Rattle.node.specs.declared.layout.Layout.the-variants.{Good}
+use Rattle.node.specs.declared.shape.Holds.the-variants.{Items}
+use Rattle.node.proofs.Open.{opened, split-may, fine-stands, module-parts, item-chain}
+use Rattle.node.proofs.NameLaws.{chain-none, chain-more}
+use Rattle.reorder.specs.Order.{Listed}
+
+-- The records before `at` are listed, those after it are left; each has at least 16 bytes
+pub record Listing (s words : List ℕ) (at count : ℕ) : Type 0 where
+  pub list : FineList s 63 at (length s) Items
+  pub fuel : ℕ
+  pub enough : length s - at ≤ fuel
+  pub are : itemPlaces s ≡ take count words ++ chain fuel s at (length s)
+  pub low : 32 + 16 * count ≤ at
+  pub few : length s ≤ maxBytes
+  pub inside : count ≤ length words
+
+-- The record of the names, of a module with no fault
+pub names-room : (s : List ℕ) → layoutOf s ≡ Good → (16 + 4 ≤ length s) × (32 ≤ 16 + wordAt s 16) × (16 + wordAt s 16 ≤ length s) × (length s ≤ maxBytes)
+names-room s e =
+    let o = opened s 63 16 (length s) aNames (module-parts s e .names) in
+    let h = o .head in
+    let b = o .body in
+    let r = o .room in
+    (omega arith, omega arith, r, o .few)
+
+pub names-fit : (s : List ℕ) → layoutOf s ≡ Good → 16 + 4 ≤ length s
+names-fit s e = names-room s e .0
+
+add-one : (n : ℕ) → suc n ≡ n + 1
+add-one n = omega arith
+
+pub none-left : (s : List ℕ) (at end : ℕ) → end ≤ at → stands s at end ≡ false
+unfolding stands
+none-left s at end p = rw (lt-leb (at + 16) end (omega arith))
+
+module _ (s : List ℕ) where
+  pub listing-start : (words : List ℕ) (w : ℕ) → layoutOf s ≡ Good → w ≡ wordAt s 16 → Listing s words (16 + w) 0
+  listing-start words w e q =
+      let m = module-parts s e in
+      let n = names-room s e in
+      record {
+        list = subst (λ (x : ℕ). FineList s 63 (16 + x) (length s) Items) (sym q) (m .items);
+        fuel = length s;
+        enough = omega arith;
+        are = item-chain s e ∙ ap (λ (x : ℕ). chain (length s) s (16 + x) (length s)) (sym q);
+        low = omega (arith, n .1);
+        few = m .few;
+        inside = omega arith;
+      }
+
+  module _ (words : List ℕ) (at count : ℕ) (l : Listing s words at count) where
+    -- Bytes are left: so a record stands there
+    pub record Next : Type 0 where
+      pub is : stands s at (length s) ≡ true
+      pub long : 16 ≤ wordAt s at
+      pub stops : at + wordAt s at ≤ length s
+      pub rest : FineList s 63 (at + wordAt s at) (length s) Items
+
+    pub listing-next : at < length s → Next
+    unfolding dueIn
+    listing-next p =
+        let m = split-may s 63 at (length s) Items anItem Items refl (λ (z : at ≡ length s). omega arith) (l .list) in
+        let o = opened s 63 at (length s) anItem (m .first) in
+        record { is = fine-stands s 63 at (length s) anItem (m .first); long = omega (arith, o .head, o .body); stops = o .room; rest = m .rest }
+
+    pub listing-on : (w : ℕ) (start : List ℕ) → at < length s → length words ≡ length start → 4096 ≤ length start → w ≡ wordAt s at → Listing s (set words count at) (at + w) (count + 1)
+    listing-on w start p same long q =
+        let n = listing-next p in
+        let low = l .low in
+        let few = l .few in
+        let big = n .long in
+        let enough = l .enough in
+        let room : count < length words = omega arith in
+        let fuel : 0 < l .fuel = omega arith in
+        let taken : take (count + 1) (set words count at) ≡ take count words ++ (at ∷ []) =
+        subst (λ (x : ℕ). take x (set words count at) ≡ take count words ++ (at ∷ [])) (add-one count) (take-suc-set words count at room) in
+        let more = chain-more s (l .fuel) at (length s) fuel (n .is) in
+        record {
+          list = subst (λ (x : ℕ). FineList s 63 (at + x) (length s) Items) (sym q) (n .rest);
+          fuel = l .fuel - 1;
+          enough = omega arith;
+          are = l .are ∙ ap (λ (x : List ℕ). take count words ++ x) more ∙ sym (append-snoc (take count words) at (chain (l .fuel - 1) s (at + wordAt s at) (length s)))
+              ∙ (λ i. sym taken i ++ chain (l .fuel - 1) s (at + sym q i) (length s));
+          low = omega arith;
+          few = few;
+          inside = omega (arith, length-set words count at);
+        }
+
+    pub listing-fits : at < length s → at + 4 ≤ length s
+    listing-fits p = let n = listing-next p in omega (arith, n .long, n .stops)
+
+    pub listing-room : (start : List ℕ) → at < length s → length words ≡ length start → 4096 ≤ length start → count < length words
+    listing-room start p same long = omega (arith, l .low, l .few)
+
+    pub listing-less : (w : ℕ) → at < length s → w ≡ wordAt s at → length s - (at + w) < length s - at
+    listing-less w p q = let n = listing-next p in omega (arith, n .long)
+
+    pub listing-done : length s ≤ at → Listed s words count
+    listing-done p =
+        let e = chain-none s (l .fuel) at (length s) (none-left s at (length s) p) in
+        record { inside = l .inside; are = sym (append-nil (take count words)) ∙ sym (ap (λ (x : List ℕ). take count words ++ x) e) ∙ sym (l .are) }

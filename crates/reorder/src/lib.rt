@@ -1,0 +1,150 @@
+// A module with its items in another order, which a number decides.
+use node::bytes::length_at;
+use node::layout::Layout;
+use node::layout::check_layout;
+ghost use mathlib.Core.Path.{_≡_};
+ghost use mathlib.Core.List.{_++_, List·Permᴰ};
+ghost use Prim.Native.Nat.{_+_, _<_, _≤_};
+ghost use lib.ListN.{length, drop};
+ghost use lib.Seq.{paste};
+ghost use Rattle.node.specs.Layout.{layoutOf};
+ghost use Rattle.node.specs.declared.layout.Layout.the-variants.{Good};
+ghost use Rattle.reorder.specs.Order.{arranged, exchanged, Listed, Places, Reordered, Shuffled};
+
+// The answer: the module is written, or turned back for a reason and at a place.
+pub enum Answer {
+    Written,
+    Refused { number: u32, place: usize },
+}
+
+// Where the record of the names starts.
+const NAMES: usize = 16;
+
+// No module has more items: each has at least 16 bytes.
+const MAX_ITEMS: usize = 4096;
+
+// A generator of numbers below a prime.
+pub const MODULUS: usize = 4294967291;
+
+const FACTOR: usize = 279470273;
+
+// Stores the places of the items, and answers how many there are.
+fn list_items(s: &[u8], places: &mut [usize]) -> usize
+    requires { ⌜ layoutOf (now s) ≡ Good ⌝ }
+    requires { ⌜ 4096 ≤ length (now places) ⌝ }
+    ensures { λ r. ⌜ Listed (now (s .entry)) (now (places .exit)) r ⌝ }
+{
+    let mut at = NAMES + length_at(s, NAMES);
+    let mut count: usize = 0;
+    while at < s.len() {
+        places[count] = at;
+        at += length_at(s, at);
+        count += 1;
+    }
+    count
+}
+
+// Exchanges two places.
+fn exchange(places: &mut [usize], i: usize, j: usize)
+    requires { ⌜ (i < length (now places)) × (j < length (now places)) ⌝ }
+    ensures { λ _. ⌜ now (places .exit) ≡ exchanged (now (places .entry)) i j ⌝ }
+{
+    let first = places[i];
+    places[i] = places[j];
+    places[j] = first;
+}
+
+// The number after this one.
+fn next_number(number: usize) -> usize
+    requires { ⌜ number < 4294967291 ⌝ }
+    ensures { λ r. ⌜ r < 4294967291 ⌝ }
+{
+    (number * FACTOR + 1) % MODULUS
+}
+
+// Puts the places in an order that the number decides: each, from the last, is exchanged with one of those up to it.
+fn permute(places: &mut [usize], seed: usize)
+    ensures { λ _. ⌜ List·Permᴰ (now (places .entry)) (now (places .exit)) ⌝ }
+{
+    let mut number = seed % MODULUS;
+    let mut left = places.len();
+    while 1 < left {
+        number = next_number(number);
+        exchange(places, left - 1, number % left);
+        left -= 1;
+    }
+}
+
+// Copies bytes to a place of the output.
+fn copy_to(part: &[u8], output: &mut [u8], to: usize)
+    requires { ⌜ to + length (now part) ≤ length (now output) ⌝ }
+    ensures { λ _. ⌜ now (output .exit) ≡ paste (now (output .entry)) to (now (part .entry)) (length (now (part .entry))) ⌝ }
+{
+    let mut i: usize = 0;
+    while i < part.len() {
+        output[to + i] = part[i];
+        i += 1;
+    }
+}
+
+// Writes the module with its items in the order of these places.
+fn arrange(s: &[u8], places: &[usize], output: &mut [u8])
+    requires { ⌜ Places (now s) (now places) ⌝ }
+    requires { ⌜ length (now s) ≤ length (now output) ⌝ }
+    ensures { λ _. ⌜ now (output .exit) ≡ arranged (now (s .entry)) (now (places .entry)) ++ drop (length (now (s .entry))) (now (output .entry)) ⌝ }
+{
+    let mut to = NAMES + length_at(s, NAMES);
+    copy_to(&s[..to], output, 0);
+    let mut next: usize = 0;
+    while next < places.len() {
+        let at = places[next];
+        let stop = at + length_at(s, at);
+        copy_to(&s[at..stop], output, to);
+        to += stop - at;
+        next += 1;
+    }
+}
+
+// Writes a module with no fault in its layout, with its items in an order that the number decides. There is room for their places.
+fn write_items(input: &[u8], number: usize, places: &mut [usize], output: &mut [u8])
+    requires { ⌜ layoutOf (now input) ≡ Good ⌝ }
+    requires { ⌜ 4096 ≤ length (now places) ⌝ }
+    requires { ⌜ length (now input) ≤ length (now output) ⌝ }
+    ensures { λ _. ⌜ Reordered (now (input .entry)) (now (output .entry)) (now (output .exit)) ⌝ }
+{
+    let count = list_items(input, places);
+    permute(&mut places[..count], number);
+    arrange(input, &places[..count], output);
+}
+
+// The same, if the output is as long as the input.
+fn shuffle_items(input: &[u8], number: usize, output: &mut [u8]) -> Answer
+    requires { ⌜ layoutOf (now input) ≡ Good ⌝ }
+    ensures { λ r. ⌜ Shuffled (now (input .entry)) (now (output .entry)) (now (output .exit)) r ⌝ }
+{
+    if output.len() < input.len() {
+        return Answer::Refused {
+            number: 5,
+            place: 0,
+        };
+    }
+    let mut places = [0usize; MAX_ITEMS];
+    write_items(input, number, &mut places, output);
+    Answer::Written
+}
+
+// Writes the module with its items in an order that the number decides; or says why it is turned back.
+pub fn shuffle(input: &[u8], number: usize, output: &mut [u8]) -> Answer
+    ensures { λ r. ⌜ Shuffled (now (input .entry)) (now (output .entry)) (now (output .exit)) r ⌝ }
+{
+    let layout = check_layout(input);
+    match layout {
+        Layout::Good => shuffle_items(input, number, output),
+        Layout::TooLong => Answer::Refused {
+            number: 1,
+            place: 0,
+        },
+        Layout::Fault(place) => Answer::Refused { number: 2, place },
+        Layout::TooDeep(place) => Answer::Refused { number: 3, place },
+    }
+}

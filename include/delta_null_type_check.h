@@ -1,0 +1,96 @@
+/* The type checker of Delta Null modules, for C and C++.
+ *
+ * Link target/staticlib/libexports.a, which `rt staticlib exports` writes (x86-64 Linux).
+ *
+ * What is promised here is proved in Rattle: the contracts stand in crates/exports/src/lib.rt, and the definitions that they
+ * cite in crates/exports/specs. The functions write nothing but the parts lent to them, keep no state, always return, and accept
+ * any bytes and any words: what is wrong or too short is refused.
+ *
+ * What a caller owes, since the proof takes it from the types `&` and `&mut`:
+ *  - a pointer is not NULL, even where the length is 0, and is aligned for its type;
+ *  - a length counts elements (bytes or words, not rows or errors), all of which may be read, and written unless const;
+ *  - no two of the parts lent to one call overlap, and no other thread writes them during the call.
+ *
+ * Every function returns 0 if the call is accepted, else the number of the refusal. Each value behind a pointer to a single number
+ * is written in every case: it is 0 where the answer has no such value, and what stood there before does not matter.
+ */
+#ifndef DELTA_NULL_TYPE_CHECK_H
+#define DELTA_NULL_TYPE_CHECK_H
+
+#include <stddef.h>
+#include <stdint.h>
+
+#ifdef __cplusplus
+extern "C" {
+#endif
+
+/* Why a call is refused, in the order of the tests: the first that holds is answered. 1 to 7 are of the module, 5 and 8 of the
+ * three questions about rows. */
+enum delta_null_refusal {
+    DELTA_NULL_ACCEPTED = 0,
+    DELTA_NULL_TOO_LONG = 1,        /* the module has over 65,536 bytes */
+    DELTA_NULL_LAYOUT_FAULT = 2,    /* the bytes break the layout; the place is that of the fault */
+    DELTA_NULL_TOO_DEEP = 3,        /* a record is due at depth 65; the place is the record's */
+    DELTA_NULL_REPEATED_NAME = 4,   /* a name equals an earlier one; the place is that of the first such */
+    DELTA_NULL_SHORT_LOAN = 5,      /* the output is shorter than the input, or there are fewer than 4 working words a name;
+                                       word_size: fewer working words than rows */
+    DELTA_NULL_TOO_MANY_ROWS = 6,   /* the module has more rows than whole rows are lent */
+    DELTA_NULL_TOO_MANY_ERRORS = 7, /* the module has more errors than whole errors are lent */
+    DELTA_NULL_BAD_ROWS = 8         /* the row count is past the rows lent, the rows break a rule, or a number is no type row */
+};
+
+/* Words of a row and of an error, and working words of a name. */
+#define DELTA_NULL_ROW_WORDS 4
+#define DELTA_NULL_ERROR_WORDS 7
+#define DELTA_NULL_NAME_WORDS 4
+
+/* Sizes that are no number of words. */
+#define DELTA_NULL_SIZE_TOO_LARGE 65536u /* above 65,535 words */
+#define DELTA_NULL_SIZE_UNKNOWN 65537u   /* Unknown inside, other than behind a pointer */
+
+/* Checks a module.
+ *
+ * Accepted (0): the output begins with the module, each of its type slots filled with the number of a type row; the rows begin with
+ * *row_count rows, the errors with *error_count errors in their order (kind, file, line, column, three operands). What lies past
+ * these, and the output past the input's length, is as it was. *place is 0.
+ *
+ * Refused with 1 to 5: every part lent is as it was. Refused with 6 or 7: the output's first input_length bytes and every word of
+ * the rows and errors are 0. *row_count and *error_count are 0, *place is that of the refusal, or 0.
+ *
+ * Accepted, or refused with 6 or 7: the first 4 working words a name are 0, the others are as they were. */
+uint32_t delta_null_type_check_module(
+    const uint8_t *input, size_t input_length,
+    uint8_t *output, size_t output_length,
+    uint32_t *rows, size_t rows_length,
+    uint32_t *errors, size_t errors_length,
+    uint32_t *work, size_t work_length,
+    uint32_t *row_count, size_t *error_count, size_t *place);
+
+/* Whether a value of the type of row source may be assigned to a place of the type of row target: *answer is 1 or 0.
+ * The table is the first count rows. Refused with 8 alone; then *answer is 0. */
+uint32_t delta_null_assignable(
+    const uint32_t *rows, size_t rows_length,
+    uint32_t count, uint32_t target, uint32_t source, uint32_t *answer);
+
+/* Whether a value of the type of row source may be cast to the type of row target: *answer is 1 or 0.
+ * The table is the first count rows. Refused with 8 alone; then *answer is 0. Mind the order of the two rows. */
+uint32_t delta_null_castable(
+    const uint32_t *rows, size_t rows_length,
+    uint32_t count, uint32_t source, uint32_t target, uint32_t *answer);
+
+/* How many words the type of row n has: *size is at most 65,535, or one of the two sizes above.
+ * The table is the first count rows; one working word a row is lent.
+ *
+ * Accepted: working word i, for i below count, holds the size of row i + 1 in the same form (of a field cell, that of its type and
+ * of the cells that follow together; of an argument cell 0, or 65,537 if there is Unknown inside); the others are as they were.
+ * Refused with 5, else with 8: the working words are as they were, and *size is 0. */
+uint32_t delta_null_word_size(
+    const uint32_t *rows, size_t rows_length,
+    uint32_t count, uint32_t n,
+    uint32_t *work, size_t work_length, uint32_t *size);
+
+#ifdef __cplusplus
+}
+#endif
+
+#endif

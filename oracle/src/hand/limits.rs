@@ -1,0 +1,128 @@
+//! The limits: bytes, depth, rows, errors and what is lent, each met and passed by one.
+
+use super::{
+    A, Case, M, REPORT, U16, X, Y, alias, array, complete, global, global_with, id, items::example_module, module,
+    name, number, pointer, put, record, structure, ty,
+};
+use crate::{
+    layout::{self, Place},
+    model,
+    product::Loans,
+    tree::Tree,
+};
+
+pub fn add(all: &mut Vec<Case>) {
+    for size in [65_536, 65_537] {
+        let left = size - module(vec![]).len() - 16;
+        put(all, format!("{size} bytes"), module(vec![Tree::with_bytes(84, Place::default(), &[], &vec![b' '; left])]));
+    }
+    depths(all);
+    for rows in [3_000, 3_001] {
+        put(all, format!("{rows} rows"), with_rows(rows));
+    }
+    for errors in [2_000, 2_001] {
+        put(all, format!("{errors} errors"), with_errors(errors));
+    }
+    loans(all);
+    repeated_names(all);
+}
+
+fn depths(all: &mut Vec<Case>) {
+    let nested = |depth: usize, inner: Tree, wrap: &dyn Fn(Tree) -> Tree| (3..depth).fold(inner, |tree, _| wrap(tree));
+    for depth in [64, 65] {
+        let e = nested(depth, number("1"), &|e| record(42, &[0], vec![e]));
+        put(all, format!("an expression at depth {depth}"), complete(vec![global_with(X, ty(U16), e)]));
+        let t = nested(depth, ty(U16), &pointer);
+        put(all, format!("a type at depth {depth}"), complete(vec![global(X, t)]));
+        // A field and its type are two levels.
+        let (fields, inner) = if depth == 64 { (30, array(1, ty(U16))) } else { (31, ty(U16)) };
+        let t = (0..fields).fold(inner, |t, _| structure(vec![(M, t)]));
+        put(all, format!("fields and a type at depth {depth}"), complete(vec![global(X, t)]));
+        let s = nested(depth, record(72, &[], vec![]), &|s| record(70, &[], vec![s]));
+        put(all, format!("a statement at depth {depth}"), complete(vec![super::function(super::void(), s)]));
+    }
+}
+
+/// What the model says of a module: its rows and its errors.
+fn counts(bytes: &[u8]) -> (usize, usize) {
+    let answer = model::check(&layout::read(bytes).expect("a good module")).answer;
+    (answer.rows.count(), answer.errors.len())
+}
+
+/// A module of so many rows: pointers to an alias that is stored after them are two rows a record.
+pub fn with_rows(rows: usize) -> Vec<u8> {
+    let chain = |size: u32, levels: usize| {
+        let inner = array(size, ty(A));
+        global(X, (0..levels).fold(inner, |t, _| pointer(t)))
+    };
+    let of = |items: &[Tree]| complete([items, &[alias(A, 0, ty(U16))]].concat());
+    let mut items = vec![];
+    while counts(&of(&items)).0 + 120 <= rows {
+        items.push(chain(items.len() as u32, 58));
+    }
+    let left = rows - counts(&of(&items)).0;
+    // An array and pointers to it before the alias, then one more row after it if the number left is odd.
+    items.push(chain(1_000_000, left / 2 - 1));
+    let mut all = [&items[..], &[alias(A, 0, ty(U16))]].concat();
+    if left % 2 == 1 {
+        all.push(global(Y, array(1_000_001, ty(U16))));
+    }
+    let bytes = complete(all);
+    assert_eq!(counts(&bytes).0, rows);
+    bytes
+}
+
+/// A module of so many errors: `&&` over unknown identifiers is three for each, less two.
+pub fn with_errors(errors: usize) -> Vec<u8> {
+    fn conjunction(leaves: usize) -> Tree {
+        match leaves {
+            1 => id(name("nobody")),
+            _ => record(44, &[0], vec![conjunction(leaves / 2), conjunction(leaves - leaves / 2)]),
+        }
+    }
+    let leaves = errors.div_ceil(3);
+    let left = errors - (3 * leaves - 2);
+    let value = (0..left).fold(conjunction(leaves), |e, _| record(42, &[0], vec![e]));
+    // Of what is left, at most two, each is a `~` over it: no integer stands there.
+    let bytes = complete(vec![global_with(X, ty(U16), value)]);
+    assert_eq!(counts(&bytes).1, errors);
+    bytes
+}
+
+/// The example with exactly what it needs lent, and less of each by one.
+fn loans(all: &mut Vec<Case>) {
+    let exact = Loans { output: 112, rows: 28, errors: 14, work: 8 };
+    let lent = [
+        ("exact loans", exact),
+        ("an output of one byte more", Loans { output: 113, ..exact }),
+        ("an output of one byte less", Loans { output: 111, ..exact }),
+        ("one working word less", Loans { work: 7, ..exact }),
+        ("working words to spare", Loans { work: 9, ..exact }),
+        ("one row word less", Loans { rows: 27, ..exact }),
+        ("row words to spare", Loans { rows: 31, ..exact }),
+        ("one error word less", Loans { errors: 13, ..exact }),
+        ("error words to spare", Loans { errors: 20, ..exact }),
+        ("too few rows and errors", Loans { rows: 27, errors: 13, ..exact }),
+        ("nothing lent", Loans { output: 0, rows: 0, errors: 0, work: 0 }),
+    ];
+    for (what, loans) in lent {
+        all.push(Case { name: format!("the example, {what}"), bytes: example_module(), loans });
+    }
+    all.push(Case { name: "the empty file, nothing lent".to_owned(), bytes: vec![], loans: lent[10].1 });
+    put(all, "the empty file", vec![]);
+}
+
+fn repeated_names(all: &mut Vec<Case>) {
+    let lists: [&[&str]; 5] =
+        [&["x", "x"], &["x", "y", "x", "y"], &["x", "y", "y", "x"], &["", ""], &["x", "X", "xx", ""]];
+    for names in lists {
+        put(all, format!("names {names:?}"), Tree::module(names, vec![]).to_bytes());
+    }
+    let long = vec![b'n'; 300];
+    let names = [long.clone(), long[..299].to_vec(), [&long[..299], b"m"].concat(), long];
+    all.push(Case {
+        name: "long names, the last equal to the first".to_owned(),
+        bytes: Tree::module(&names, vec![]).to_bytes(),
+        loans: REPORT,
+    });
+}

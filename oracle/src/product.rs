@@ -1,0 +1,258 @@
+//! The checker under test: linked into this program, or a program that is asked over its standard input.
+//!
+//! A question is seven words, least byte first: the bytes of the module, the bytes lent for the output, the words lent for
+//! rows, errors and work, the word that fills them all before (the output gets its lowest byte), how often to check;
+//! then the module. The answer is three words: 0, rows, errors, or the number of the refusal, its place, 0; then, if it
+//! was to check once, the output and the words of rows, errors and work.
+
+use std::{
+    io::{BufReader, BufWriter, Read, Write},
+    path::{Path, PathBuf},
+    process::{Child, ChildStdin, ChildStdout, Command, Stdio},
+    sync::mpsc::{self, Receiver, Sender},
+    thread,
+    time::Duration,
+};
+
+use crate::buffers::words;
+
+/// How much is lent: bytes of output, words of rows, errors and work.
+#[derive(Clone, Copy, Debug, PartialEq, Eq)]
+pub struct Loans {
+    pub output: usize,
+    pub rows: usize,
+    pub errors: usize,
+    pub work: usize,
+}
+
+/// What the report program lends.
+pub const REPORT: Loans = Loans { output: 65_536, rows: 12_000, errors: 14_000, work: 16_376 };
+
+/// What stands in every lent word before a run.
+pub const FILL: u32 = 0xa5a5_a5a5;
+
+/// What the product left.
+#[derive(Clone, Debug)]
+pub struct Said {
+    /// 0 if the module was accepted.
+    pub number: u32,
+    /// Rows and errors, or the place and 0.
+    pub values: [u32; 2],
+    pub output: Vec<u8>,
+    pub rows: Vec<u32>,
+    pub errors: Vec<u32>,
+    pub work: Vec<u32>,
+}
+
+/// How long the product may take for one module.
+const LIMIT: Duration = Duration::from_secs(20);
+
+/// The product, in one of its two forms.
+pub enum Product {
+    Program(Program),
+    #[cfg(linked)]
+    Linked,
+}
+
+impl Product {
+    /// The linked product, or the program at a path.
+    pub fn start(path: &Path) -> Result<Self, String> {
+        if path == Path::new("linked") {
+            #[cfg(linked)]
+            return Ok(Product::Linked);
+            #[cfg(not(linked))]
+            return Err("no product is linked: build with DELTA_NULL_LIB".to_owned());
+        }
+        Program::start(path).map(Product::Program)
+    }
+
+    /// What the product says of a module; an error if it ends or takes too long.
+    pub fn check(&mut self, module: &[u8], loans: Loans) -> Result<Said, String> {
+        match self {
+            Product::Program(program) => program.check(module, loans),
+            #[cfg(linked)]
+            Product::Linked => linked::check(module, loans),
+        }
+    }
+
+    /// Has the product check a module several times, at least two, with the report program's loans.
+    pub fn repeat(&mut self, module: &[u8], turns: u32) -> Result<(), String> {
+        match self {
+            Product::Program(program) => program.repeat(module, turns),
+            #[cfg(linked)]
+            Product::Linked => {
+                linked::repeat(module, turns);
+                Ok(())
+            }
+        }
+    }
+}
+
+/// The product as a static library, as `rt staticlib` makes it: a slice is a pointer and a length.
+#[cfg(linked)]
+mod linked {
+    use super::{FILL, LIMIT, Loans, REPORT, Said};
+    use std::{sync::mpsc, thread};
+
+    unsafe extern "C" {
+        /// 0 with the counts, or the number of the refusal with its place. What the answer has not is 0.
+        fn delta_null_type_check_module(
+            input: *const u8,
+            input_len: usize,
+            output: *mut u8,
+            output_len: usize,
+            rows: *mut u32,
+            rows_len: usize,
+            errors: *mut u32,
+            errors_len: usize,
+            work: *mut u32,
+            work_len: usize,
+            row_count: *mut u32,
+            error_count: *mut usize,
+            place: *mut usize,
+        ) -> u32;
+    }
+
+    /// Buffers as they are before a run.
+    fn buffers(loans: Loans) -> Said {
+        Said {
+            number: 0,
+            values: [0, 0],
+            output: vec![FILL as u8; loans.output],
+            rows: vec![FILL; loans.rows],
+            errors: vec![FILL; loans.errors],
+            work: vec![FILL; loans.work],
+        }
+    }
+
+    fn run(module: &[u8], said: &mut Said) {
+        let (mut row_count, mut error_count, mut place) = (0, 0, 0);
+        // The slices are apart from each other, and the function keeps none of them.
+        said.number = unsafe {
+            delta_null_type_check_module(
+                module.as_ptr(),
+                module.len(),
+                said.output.as_mut_ptr(),
+                said.output.len(),
+                said.rows.as_mut_ptr(),
+                said.rows.len(),
+                said.errors.as_mut_ptr(),
+                said.errors.len(),
+                said.work.as_mut_ptr(),
+                said.work.len(),
+                &mut row_count,
+                &mut error_count,
+                &mut place,
+            )
+        };
+        said.values = match said.number {
+            0 => [row_count, error_count as u32],
+            _ => [place as u32, 0],
+        };
+    }
+
+    /// On a thread of its own, with a limit of time.
+    pub fn check(module: &[u8], loans: Loans) -> Result<Said, String> {
+        let (send, receive) = mpsc::channel();
+        let module = module.to_vec();
+        thread::spawn(move || {
+            let mut said = buffers(loans);
+            run(&module, &mut said);
+            let _ = send.send(said);
+        });
+        receive.recv_timeout(LIMIT).map_err(|_| "no answer in time".to_owned())
+    }
+
+    pub fn repeat(module: &[u8], turns: u32) {
+        let mut said = buffers(REPORT);
+        for _ in 0..turns {
+            run(std::hint::black_box(module), &mut said);
+        }
+    }
+}
+
+/// A running program.
+pub struct Program {
+    path: PathBuf,
+    child: Child,
+    to: BufWriter<ChildStdin>,
+    ask: Sender<Loans>,
+    hear: Receiver<Result<Said, String>>,
+}
+
+impl Program {
+    fn start(path: &Path) -> Result<Self, String> {
+        let path = path.to_owned();
+        let child = Command::new(&path).stdin(Stdio::piped()).stdout(Stdio::piped()).spawn();
+        let mut child = child.map_err(|e| format!("{}: {e}", path.display()))?;
+        let to = BufWriter::new(child.stdin.take().unwrap());
+        let from = child.stdout.take().unwrap();
+        let (ask, asked) = mpsc::channel();
+        let (say, hear) = mpsc::channel();
+        thread::spawn(move || listen(from, asked, say));
+        Ok(Program { path, child, to, ask, hear })
+    }
+
+    /// If the program ends or takes too long it is started again.
+    fn check(&mut self, module: &[u8], loans: Loans) -> Result<Said, String> {
+        let said = self.asked(module, loans, 1).and_then(|()| {
+            self.ask.send(loans).map_err(|e| e.to_string())?;
+            self.hear.recv_timeout(LIMIT).map_err(|_| "no answer in time".to_owned())?
+        });
+        if said.is_err() {
+            let _ = self.child.kill();
+            let _ = self.child.wait();
+            *self = Program::start(&self.path)?;
+        }
+        said
+    }
+
+    fn repeat(&mut self, module: &[u8], turns: u32) -> Result<(), String> {
+        self.asked(module, REPORT, turns)?;
+        self.ask.send(Loans { output: 0, rows: 0, errors: 0, work: 0 }).map_err(|e| e.to_string())?;
+        self.hear.recv().map_err(|e| e.to_string())?.map(|_| ())
+    }
+
+    fn asked(&mut self, module: &[u8], loans: Loans, turns: u32) -> Result<(), String> {
+        let sizes = [module.len(), loans.output, loans.rows, loans.errors, loans.work].map(|size| size as u32);
+        let head: Vec<u8> = sizes.into_iter().chain([FILL, turns]).flat_map(u32::to_le_bytes).collect();
+        let sent = self.to.write_all(&head).and_then(|()| self.to.write_all(module)).and_then(|()| self.to.flush());
+        sent.map_err(|e| e.to_string())
+    }
+}
+
+impl Drop for Program {
+    fn drop(&mut self) {
+        let _ = self.child.kill();
+        let _ = self.child.wait();
+    }
+}
+
+/// Reads an answer for each question.
+fn listen(from: ChildStdout, asked: Receiver<Loans>, say: Sender<Result<Said, String>>) {
+    let mut from = BufReader::with_capacity(1 << 18, from);
+    for loans in asked {
+        let said = answer(&mut from, loans).map_err(|e| format!("the program ended: {e}"));
+        if say.send(said).is_err() {
+            return;
+        }
+    }
+}
+
+fn answer(from: &mut impl Read, loans: Loans) -> std::io::Result<Said> {
+    let mut bytes = |count: usize| {
+        let mut bytes = vec![0; count];
+        from.read_exact(&mut bytes).map(|()| bytes)
+    };
+    let head = words(&bytes(12)?).unwrap();
+    let output = bytes(loans.output)?;
+    let mut some_words = |count: usize| bytes(4 * count).map(|bytes| words(&bytes).unwrap());
+    Ok(Said {
+        number: head[0],
+        values: [head[1], head[2]],
+        output,
+        rows: some_words(loans.rows)?,
+        errors: some_words(loans.errors)?,
+        work: some_words(loans.work)?,
+    })
+}
