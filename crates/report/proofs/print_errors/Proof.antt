@@ -5,13 +5,19 @@ use Rattle.report.proofs.print_errors.Statement.{statement}
 use Rattle.report.proofs.print_errors.Tie as tie
 
 abbrev Inv-loop : tie.InvT-loop
-Inv-loop errors count i₀ i = i ≤ count
+Inv-loop count errors i₀ i = i ≤ count
 
 abbrev μ-loop : tie.MeasureT-loop
-μ-loop errors count i₀ i = count - i
+μ-loop count errors i₀ i = count - i
 
 loop-holds : tie.Need-loop-holds Inv-loop μ-loop
 loop-holds c = search needs
+
+mul-print-error : tie.Need-mul-print-error Inv-loop μ-loop
+mul-print-error c = search needs
+
+array-copy-out-print-error : tie.Need-array-copy-out-print-error Inv-loop μ-loop
+array-copy-out-print-error c = search needs
 
 print-error-requires : tie.Need-print-error-requires Inv-loop μ-loop
 print-error-requires c κs = search needs
@@ -31,4 +37,4 @@ returns c = search needs
 pub print-errors-spec : {M : Type 1} → statement M
 print-errors-spec =
     tie.close
-    (tie.spec Inv-loop μ-loop loop-holds print-error-requires add-i loop-less loop-again returns)
+    (tie.spec Inv-loop μ-loop loop-holds mul-print-error array-copy-out-print-error print-error-requires add-i loop-less loop-again returns)

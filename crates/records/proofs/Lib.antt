@@ -1,0 +1,4 @@
+pub mod Laws
+pub mod Promise
+pub mod Lending
+pub mod LocalArray

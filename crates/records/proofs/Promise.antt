@@ -1,0 +1,215 @@
+-- What the check of the words says of the records. Assumes nothing.
+use Prim.Native.Nat.{ℕ, _+_, _*_, _/_, _≤_, _<_}
+use mathlib.Core.Path.{_≡_, refl, sym, _∙_, ap, subst}
+use mathlib.Core.Bool.{Bool, true, false, cond, _||_}
+use mathlib.Core.List.{List, [], _∷_, _++_, map}
+use mathlib.Core.Option.{Option, none, some}
+use native.Mathlib.Omega.{arith}
+use lib.Dec.{leb, ltb}
+use lib.ListN.{length, take, drop, replicate, length-replicate}
+use lib.Seq.{length-take-le, take-at, drop-at}
+use borrow.Author.Tests.{lt-ltb, le-leb, lt-leb, leb-true, leb-false, ltb-false}
+use Rattle.types.specs.Table.{rowWidth}
+use Rattle.fallible.specs.Outcome.{Outcome, refused, accepted}
+use Rattle.fallible.specs.Errors.{errorWidth, errorsFrom}
+use Rattle.fallible.specs.declared.Error.{Error}
+use Rattle.node.specs.Layout.{layoutOf, layoutRefusal}
+use Rattle.node.specs.Names.{namesOf, nameCount, repeatedName, nameRefusal}
+use Rattle.node.specs.declared.layout.Layout.{Layout}
+use Rattle.node.specs.declared.layout.Layout.the-variants.{Good, TooLong, Fault, TooDeep}
+use Rattle.node.specs.declared.names.Repeated.{Repeated}
+use Rattle.node.specs.declared.names.Repeated.the-variants.{Nowhere, At}
+use Rattle.meaning.specs.Promise.{Counts, Buffers, Lengths, lengthsOf, countsOf, workWidth, refuseIf, outcomeAfter, firstRefusal, answerOf, unfoldError, errorsOf, Checked}
+use Rattle.type_check.specs.declared.Answer.{Answer}
+use Rattle.type_check.specs.declared.Answer.the-variants.{Accepted, Refused}
+use Rattle.type_check.specs.Post.{buffers, outcomeOf, loanRefusal, Passed}
+use Rattle.type_check.proofs.Outcomes.{cleared-all, accepted-counts, refused-never}
+use Rattle.type_check.proofs.Ending.{names-room}
+use Rattle.records.specs.Records.{noLoan, wordsFor, CheckedWords, recordsFrom, zeroRecord, recordCount, recordsAfter, CheckedRecords}
+use Rattle.records.proofs.Laws.{errors-long, records-none, records-all, errors-of-front, errors-of-zeros}
+
+-- ---- how many records are filled, where the module is turned back
+pub none-filled : {answer : Answer} {number place : ℕ} (lent : ℕ) → answer ≡ Refused number place → number ≤ 5 → 0 ≡ recordCount (outcomeOf answer) lent
+none-filled {answer} {number} {place} lent e p = ap (λ (b : Bool). cond b 0 lent) (sym (le-leb number 5 p)) ∙ ap (λ (a : Answer). recordCount (outcomeOf a) lent) (sym e)
+
+pub all-filled : {answer : Answer} {number place : ℕ} (lent : ℕ) → answer ≡ Refused number place → 5 < number → lent ≡ recordCount (outcomeOf answer) lent
+all-filled {answer} {number} {place} lent e p = ap (λ (b : Bool). cond b 0 lent) (sym (lt-leb number 5 p)) ∙ ap (λ (a : Answer). recordCount (outcomeOf a) lent) (sym e)
+
+-- ---- nothing lent
+abbrev Low : Outcome Counts → Type 0
+Low (refused number place) = number ≤ 5
+Low (accepted counts) = ⊥
+
+good-long : (input : List ℕ) → layoutOf input ≡ Good → repeatedName input ≡ Nowhere → ltb 0 (length input) ≡ true
+good-long input good once =
+    let passed : Passed input (length input) (workWidth * nameCount input) = record { layout = good; names = once; long = omega arith; wide = omega arith } in
+    let p = names-room passed in
+    lt-ltb 0 (length input) (omega arith)
+
+-- The tests past the names, where the first loan is too short or not.
+abbrev past-names : (input : List ℕ) → Bool → Outcome Counts
+past-names input b =
+    firstRefusal
+    (refuseIf (b || ltb 0 (workWidth * length (namesOf input))) 5 ∷ refuseIf (ltb 0 (rowWidth * countsOf input .rows)) 6 ∷ refuseIf (ltb 0 (errorWidth * countsOf input .errors)) 7 ∷ [])
+    (accepted (countsOf input))
+
+nothing-lent : (input : List ℕ) → Low (answerOf input noLoan)
+unfolding answerOf layoutRefusal nameRefusal
+nothing-lent input = by-layout (layoutOf input) refl
+  where
+    by-name : layoutOf input ≡ Good → (r : Repeated) → repeatedName input ≡ r → Low (outcomeAfter (nameRefusal r) (past-names input (ltb 0 (length input))))
+    by-name good Nowhere once = subst (λ (b : Bool). Low (past-names input b)) (sym (good-long input good once)) (omega arith)
+    by-name good (At p) once = omega arith
+
+    by-layout : (l : Layout) → layoutOf input ≡ l → Low (outcomeAfter (layoutRefusal l) (outcomeAfter (nameRefusal (repeatedName input)) (past-names input (ltb 0 (length input)))))
+    by-layout Good e = by-name e (repeatedName input) refl
+    by-layout TooLong e = omega arith
+    by-layout (Fault p) e = omega arith
+    by-layout (TooDeep p) e = omega arith
+
+-- ---- the words
+empty : (l : List ℕ) → length l ≡ 0 → l ≡ []
+empty [] e = refl
+empty (x ∷ l) e = absurd (omega (arith, e))
+
+pub words-short : {input output rows words work output′ rows′ part work′ : List ℕ} {answer : Outcome Counts} (records : ℕ) → length words / 7 < records
+    → Checked input (buffers (take 0 output) (take 0 rows) (take 0 words) (take 0 work)) (buffers output′ rows′ part work′) answer
+    → CheckedWords input records (buffers output rows words work) (buffers (output′ ++ drop 0 output) (rows′ ++ drop 0 rows) (part ++ drop 0 words) (work′ ++ drop 0 work)) answer
+words-short {input} {output} {rows} {words} {work} {output′} {rows′} {part} {work′} {answer} records p c =
+    let o : output′ ≡ [] = empty output′ (ap (λ (l : Lengths). l .output) (c .lengths)) in
+    let r : rows′ ≡ [] = empty rows′ (ap (λ (l : Lengths). l .rows) (c .lengths)) in
+    let e : part ≡ [] = empty part (ap (λ (l : Lengths). l .errors) (c .lengths)) in
+    let w : work′ ≡ [] = empty work′ (ap (λ (l : Lengths). l .work) (c .lengths)) in
+    record {
+      short = λ q. (c .answers, λ j. buffers (o j ++ output) (r j ++ rows) (e j ++ words) (w j ++ work));
+      checked = λ q. absurd (omega arith);
+      past = ap (λ (l : List ℕ). drop (errorWidth * records) (l ++ words)) e;
+    }
+
+pub words-checked : {input output rows work output′ rows′ part work′ : List ℕ} {answer : Outcome Counts} (words : List ℕ) (records : ℕ) → records ≤ length words / 7
+    → Checked input (buffers output rows (take (7 * records) words) work) (buffers output′ rows′ part work′) answer
+    → CheckedWords input records (buffers output rows words work) (buffers output′ rows′ (part ++ drop (7 * records) words) work′) answer
+words-checked {input} {output} {rows} {work} {output′} {rows′} {part} {work′} {answer} words records p c =
+    let room : 7 * records ≤ length words = omega arith in
+    let long : length part ≡ 7 * records = ap (λ (l : Lengths). l .errors) (c .lengths) ∙ length-take-le (7 * records) words room in
+    record {
+      short = λ q. absurd (omega arith);
+      checked =
+          λ q.
+          subst (λ (l : List ℕ). Checked input (buffers output rows (take (7 * records) words) work) (buffers output′ rows′ l work′) answer)
+          (sym (take-at part (drop (7 * records) words) (7 * records) long)) c;
+      past = drop-at part (drop (7 * records) words) (7 * records) long;
+    }
+
+-- ---- accepted: no test refused
+accepted-rest : (t : Option (ℕ × ℕ)) (other : Outcome Counts) (counts : Counts) → accepted counts ≡ outcomeAfter t other → accepted counts ≡ other
+accepted-rest none other counts e = e
+accepted-rest (some r) other counts e = absurd (refused-never (sym e))
+
+accepted-last : (b : Bool) (counts all : Counts) → accepted counts ≡ outcomeAfter (refuseIf b 7) (accepted all) → (b ≡ false) × (counts ≡ all)
+accepted-last true counts all e = absurd (refused-never (sym e))
+accepted-last false counts all e = (refl, accepted-counts e)
+
+accepted-room : (input : List ℕ) (lent : Lengths) (counts : Counts) → accepted counts ≡ answerOf input lent → errorWidth * counts .errors ≤ lent .errors
+unfolding answerOf
+accepted-room input lent counts e =
+    let full = refuseIf (ltb (lent .errors) (errorWidth * countsOf input .errors)) 7 in
+    let rows = refuseIf (ltb (lent .rows) (rowWidth * countsOf input .rows)) 6 in
+    let loan = loanRefusal input (lent .output) (lent .work) in
+    let name = nameRefusal (repeatedName input) in
+    let layout = layoutRefusal (layoutOf input) in
+    let other = accepted (countsOf input) in
+    let e₁ = accepted-rest layout (firstRefusal (name ∷ loan ∷ rows ∷ full ∷ []) other) counts e in
+    let e₂ = accepted-rest name (firstRefusal (loan ∷ rows ∷ full ∷ []) other) counts e₁ in
+    let e₃ = accepted-rest loan (firstRefusal (rows ∷ full ∷ []) other) counts e₂ in
+    let e₄ = accepted-rest rows (firstRefusal (full ∷ []) other) counts e₃ in
+    let both = accepted-last (ltb (lent .errors) (errorWidth * countsOf input .errors)) counts (countsOf input) e₄ in
+    let same : counts .errors ≡ countsOf input .errors = ap (λ (c : Counts). c .errors) (both .1) in
+    let p = ltb-false (lent .errors) (errorWidth * countsOf input .errors) (both .0) in
+    omega (arith, same, p)
+
+-- ---- the records, after a check of their words
+module _ (input : List ℕ) (before after : Buffers) (records : List Error) where
+  abbrev lent : ℕ
+  lent = length records
+
+  abbrev front : List ℕ
+  front = wordsFor lent after .errors
+
+  -- Enough words were lent, where the answer is none of 1 to 5.
+  enough : {answer : Outcome Counts} → CheckedWords input lent before after answer → (Low answer → ⊥) → errorWidth * lent ≤ length (before .errors)
+  enough c other = go (leb (errorWidth * lent) (length (before .errors))) refl
+    where
+      go : (b : Bool) → leb (errorWidth * lent) (length (before .errors)) ≡ b → errorWidth * lent ≤ length (before .errors)
+      go true e = leb-true (errorWidth * lent) (length (before .errors)) e
+      go false e = absurd (other (subst Low (sym (c .short (leb-false (errorWidth * lent) (length (before .errors)) e) .0)) (nothing-lent input)))
+
+  no-more : {counts : Counts} → CheckedWords input lent before after (accepted counts) → (errorWidth * lent ≤ length (before .errors)) × (counts .errors ≤ lent)
+  no-more {counts} c =
+      let p = enough c (λ low. low) in
+      let room = accepted-room input (lengthsOf (wordsFor lent before)) counts (c .checked p .answers) in
+      let long = length-take-le (errorWidth * lent) (before .errors) p in
+      (p, omega (arith, room, long))
+
+  -- What is asked to fill them.
+  pub fit : (answer : Outcome Counts) → CheckedWords input lent before after answer → length (after .errors) ≡ length (before .errors)
+      → (recordCount answer lent ≤ lent) × (errorWidth * recordCount answer lent ≤ length (after .errors))
+  fit (accepted counts) c l =
+      let p = no-more c in
+      let a = p .0 in
+      let b = p .1 in
+      (p .1, omega (arith, a, b, l))
+  fit (refused number place) c l = go (leb number 5) refl
+    where
+      go : (b : Bool) → leb number 5 ≡ b → (cond b 0 lent ≤ lent) × (errorWidth * cond b 0 lent ≤ length (after .errors))
+      go true e = (omega arith, omega arith)
+      go false e =
+          let high = leb-false number 5 e in
+          let p = enough c (λ low. omega (arith, high, low)) in
+          (omega arith, omega (arith, p, l))
+
+  -- Turned back with 6 or 7: the words are 0, and so are the records.
+  zeros : {number place : ℕ} → CheckedWords input lent before after (refused number place) → 5 < number → recordsFrom (after .errors) lent records ≡ replicate lent zeroRecord
+  zeros {number} {place} c high =
+      let p = enough c (λ low. omega (arith, high, low)) in
+      let long : length (take (errorWidth * lent) (before .errors)) ≡ errorWidth * lent = length-take-le (errorWidth * lent) (before .errors) p in
+      let wiped-words : front ≡ replicate (errorWidth * lent) 0 =
+      ap (λ (b : Buffers). b .errors) (c .checked p .emptied number place refl high) ∙ cleared-all (take (errorWidth * lent) (before .errors)) ∙ ap (λ (k : ℕ). replicate k 0) long in
+      records-all (after .errors) records
+      ∙ sym (errors-of-front (after .errors) (errorWidth * lent) 0 lent (omega arith))
+      ∙ ap (λ (l : List ℕ). errorsFrom l 0 lent) wiped-words
+      ∙ errors-of-zeros (errorWidth * lent) 0 lent (omega arith)
+
+  filled : (answer : Outcome Counts) → CheckedWords input lent before after answer → recordsFrom (after .errors) (recordCount answer lent) records ≡ recordsAfter answer front records
+  filled (accepted counts) c =
+      let p = no-more c .1 in
+      ap (λ (l : List Error). l ++ drop (counts .errors) records) (sym (errors-of-front (after .errors) (errorWidth * lent) 0 (counts .errors) (omega arith)))
+  filled (refused number place) c = go (leb number 5) refl
+    where
+      go : (b : Bool) → leb number 5 ≡ b → recordsFrom (after .errors) (cond b 0 lent) records ≡ cond b records (replicate lent zeroRecord)
+      go true e = records-none (after .errors) records
+      go false e = zeros c (leb-false number 5 e)
+
+  -- The whole promise.
+  pub records-checked : {records′ : List Error} (answer : Outcome Counts) → CheckedWords input lent before after answer → records′ ≡ recordsFrom (after .errors) (recordCount answer lent) records
+      → CheckedRecords input before after records records′ answer
+  records-checked answer c e = record { words = c; filled = e ∙ filled answer c }
+
+-- A list of n records has all errors of an accepted module.
+pub errors-fit : {input : List ℕ} {before after : Buffers} {n : ℕ} {records′ : List Error} {answer : Answer} {rows errors : ℕ}
+    → CheckedRecords input before after (replicate n zeroRecord) records′ (outcomeOf answer) → answer ≡ Accepted rows errors → errors ≤ n
+errors-fit {input} {before} {after} {n} {records′} {answer} {rows} {errors} c e =
+    let records = replicate n zeroRecord in
+    let p = no-more input before after records (subst (λ (a : Answer). CheckedWords input (length records) before after (outcomeOf a)) e (c .words)) .1 in
+    let l : length records ≡ n = length-replicate n zeroRecord in
+    omega (arith, p, l)
+
+-- Of an accepted module, the records that are filled are its errors, operands that are row numbers unfolded.
+pub records-mean : {input : List ℕ} {before after : Buffers} {records records′ : List Error} {counts : Counts} → CheckedRecords input before after records records′ (accepted counts)
+    → map (unfoldError (after .rows)) (take (counts .errors) records′) ≡ errorsOf input
+records-mean {input} {before} {after} {records} {records′} {counts} c =
+    let words = wordsFor (length records) after .errors in
+    let p = no-more input before after records (c .words) .0 in
+    let front : take (counts .errors) records′ ≡ errorsFrom words 0 (counts .errors) =
+    ap (take (counts .errors)) (c .filled) ∙ take-at (errorsFrom words 0 (counts .errors)) (drop (counts .errors) records) (counts .errors) (errors-long words 0 (counts .errors)) in
+    ap (map (unfoldError (after .rows))) front ∙ c .words .checked p .filled counts refl .errors

@@ -1,0 +1,129 @@
+// The errors as records with named fields: `type_check_module`, and a list of records filled from the words of its errors.
+use fallible::Error;
+use type_check::Answer;
+use type_check::type_check_module;
+ghost use mathlib.Core.Path.{_≡_};
+ghost use Prim.Native.Nat.{_+_, _*_, _≤_};
+ghost use lib.ListN.{length, replicate};
+ghost use Rattle.fallible.specs.Errors.{errorWidth, errorAt};
+ghost use Rattle.type_check.specs.Post.{buffers, outcomeOf};
+ghost use Rattle.records.specs.Records.{recordsFrom, recordCount, zeroRecord, CheckedWords, CheckedRecords};
+
+// Words of an error.
+const ERROR_WIDTH: usize = 7;
+
+// The error at a number, from 0, by its words.
+fn error_at(words: &[u32], number: usize) -> Error
+    requires { ⌜ errorWidth * (number + 1) ≤ length (now words) ⌝ }
+    ensures { λ r. ⌜ r ≡ errorAt (now (words .entry)) number ⌝ }
+{
+    let at = ERROR_WIDTH * number;
+    Error {
+        kind: words[at],
+        file: words[at + 1],
+        line: words[at + 2],
+        column: words[at + 3],
+        first: words[at + 4],
+        second: words[at + 5],
+        third: words[at + 6],
+    }
+}
+
+// Fills the first `count` records from their words.
+fn fill_records(records: &mut [Error], words: &[u32], count: usize)
+    requires { ⌜ (count ≤ length (now records)) × (errorWidth * count ≤ length (now words)) ⌝ }
+    ensures { λ _. ⌜ now (records .exit) ≡ recordsFrom (now (words .entry)) count (now (records .entry)) ⌝ }
+{
+    let mut i: usize = 0;
+    while i < count {
+        records[i] = error_at(words, i);
+        i += 1;
+    }
+}
+
+// `type_check_module` with seven words for each of so many records, and no more. Fewer words are as good as nothing lent, which is refused.
+fn check_words(
+    input: &[u8],
+    output: &mut [u8],
+    rows: &mut [u32],
+    words: &mut [u32],
+    records: usize,
+    work: &mut [u32],
+) -> Answer
+    ensures { λ r. ⌜ CheckedWords (now (input .entry)) records (buffers (now (output .entry)) (now (rows .entry)) (now (words .entry)) (now (work .entry))) (buffers (now (output .exit)) (now (rows .exit)) (now (words .exit)) (now (work .exit))) (outcomeOf r) ⌝ }
+{
+    if words.len() / ERROR_WIDTH < records {
+        return type_check_module(
+            input,
+            &mut output[..0],
+            &mut rows[..0],
+            &mut words[..0],
+            &mut work[..0],
+        );
+    }
+    let room = ERROR_WIDTH * records;
+    type_check_module(input, output, rows, &mut words[..room], work)
+}
+
+// How many of the records lent are filled from the words: after 6 and 7, which leave all words 0, every one.
+fn record_count(answer: Answer, lent: usize) -> usize
+    ensures { λ r. ⌜ r ≡ recordCount (outcomeOf answer) lent ⌝ }
+{
+    match answer {
+        Answer::Accepted { rows: _, errors } => errors,
+        Answer::Refused { number, place: _ } => if number <= 5 { 0 } else { lent },
+    }
+}
+
+// Checks a module, and gives its errors as records. The words are lent for the check to work with, seven a record.
+pub fn type_check_module_records(
+    input: &[u8],
+    output: &mut [u8],
+    rows: &mut [u32],
+    words: &mut [u32],
+    records: &mut [Error],
+    work: &mut [u32],
+) -> Answer
+    ensures { λ r. ⌜ CheckedRecords (now (input .entry)) (buffers (now (output .entry)) (now (rows .entry)) (now (words .entry)) (now (work .entry))) (buffers (now (output .exit)) (now (rows .exit)) (now (words .exit)) (now (work .exit))) (now (records .entry)) (now (records .exit)) (outcomeOf r) ⌝ }
+{
+    let answer = check_words(input, output, rows, words, records.len(), work);
+    let count = record_count(answer, records.len());
+    fill_records(records, words, count);
+    answer
+}
+
+// What a report is made of: the answer, and the records of a list as long as the report program lends.
+pub struct Report {
+    pub answer: Answer,
+    pub errors: [Error; 2000],
+}
+
+fn zero_records() -> [Error; 2000]
+    ensures { λ r. ⌜ r ≡ replicate 2000 zeroRecord ⌝ }
+{
+    let zero = Error {
+        kind: 0,
+        file: 0,
+        line: 0,
+        column: 0,
+        first: 0,
+        second: 0,
+        third: 0,
+    };
+    [zero; 2000]
+}
+
+// `type_check_module_records` with a list of its own, which goes to the caller by value.
+pub fn report_module(
+    input: &[u8],
+    output: &mut [u8],
+    rows: &mut [u32],
+    words: &mut [u32],
+    work: &mut [u32],
+) -> Report
+    ensures { λ r. ⌜ CheckedRecords (now (input .entry)) (buffers (now (output .entry)) (now (rows .entry)) (now (words .entry)) (now (work .entry))) (buffers (now (output .exit)) (now (rows .exit)) (now (words .exit)) (now (work .exit))) (replicate 2000 zeroRecord) (r .errors) (outcomeOf (r .answer)) ⌝ }
+{
+    let mut errors = zero_records();
+    let answer = type_check_module_records(input, output, rows, words, &mut errors, work);
+    Report { answer, errors }
+}
