@@ -134,10 +134,10 @@ pub opened-kind : (s : List ℕ) (d at end c k : ℕ) → FineRecord s d at end 
 opened-kind s d at end c k f e = opened-at s d at end c k (at + 16 + 4 * shapeOf k .fields) (stopAt s at) f (sym e) (ap (λ (x : ℕ). at + 16 + 4 * shapeOf x .fields) (sym e)) refl
 
 -- what `enter` reads
-pub entered : (s : List ℕ) (d at end c k len : ℕ) (r : Shape) → FineRecord s d at end c → k ≡ halfAt s (at + 4) → r ≡ shapeOf k → len ≡ wordAt s at
-    → Opened s d at end c k (at + 16 + 4 * r .fields) (at + len)
-entered s d at end c k len r f ek er el =
-    opened-at s d at end c k (at + 16 + 4 * r .fields) (at + len) f ek (ap (λ (x : Shape). at + 16 + 4 * x .fields) (er ∙ ap shapeOf ek)) (ap (λ (x : ℕ). at + x) el)
+pub entered : (s : List ℕ) (d at end c k len n : ℕ) → FineRecord s d at end c → k ≡ halfAt s (at + 4) → n ≡ shapeOf k .fields → len ≡ wordAt s at
+    → Opened s d at end c k (at + 16 + 4 * n) (at + len)
+entered s d at end c k len n f ek en el =
+    opened-at s d at end c k (at + 16 + 4 * n) (at + len) f ek (ap (λ (x : ℕ). at + 16 + 4 * x) (en ∙ ap (λ (j : ℕ). shapeOf j .fields) ek)) (ap (λ (x : ℕ). at + x) el)
 
 -- a field that is not bad has a value that its rule allows
 pub good-field : (n : ℕ) (s : List ℕ) (nth fields : ℕ) (rule : Rule) (at : ℕ) → isBad n s nth fields rule at ≡ false → nth ≤ fields → allowed n rule (wordAt s at) ≡ true

@@ -4,6 +4,7 @@ use mathlib.Core.Path.{_≡_, refl, sym, _∙_, ap}
 use mathlib.Core.Bool.{Bool, true, false, not, _&&_, _||_}
 use mathlib.Core.List.{List, [], _∷_}
 use lib.Dec.{leb, ltb, eqb}
+use lib.ListN.{length, getD}
 use native.Mathlib.Omega.{arith}
 use borrow.Author.Tests.{leb-true, leb-false, ltb-true, eqb-true, eq-eqb, ne-eqb}
 use Rattle.node.specs.Shape.{pick, noField, lookUp, shapes, shapeOf, Shaped, unlisted, aModule, aType, anExpression, aCompound, aStatement, anItem}
@@ -96,6 +97,30 @@ module _ {r : Shape} (k : ℕ) (d : r ≡ noField unlisted Nothing) where
   pub above-84 : Others 85 1 k → 84 < k → k < 4294967296 → Shaped k r
   unfolding clear
   above-84 o p q = unlisted-kind 86 4294967296 k refl (past 85 1 k p o) q d
+
+-- A list has the numbers of fields of the kinds from `low` on
+abbrev pub allCounted : (low : ℕ) → List ℕ → Bool
+allCounted low [] = true
+allCounted low (n ∷ ns) = eqb n (shapeOf low .fields) && allCounted (suc low) ns
+
+counted : (low : ℕ) (ns : List ℕ) (i k : ℕ) → allCounted low ns ≡ true → i < length ns → low + i ≡ k → getD ns i 0 ≡ shapeOf k .fields
+counted low [] i k e p q = absurd (omega arith)
+counted low (n ∷ ns) zero k e p q =
+    eqb-true _ _ (and-both (eqb n (shapeOf low .fields)) (allCounted (suc low) ns) e .0) ∙ ap (λ j. shapeOf j .fields) (omega arith)
+counted low (n ∷ ns) (suc i) k e p q =
+    counted (suc low) ns i k (and-both (eqb n (shapeOf low .fields)) (allCounted (suc low) ns) e .1) (omega arith) (omega arith)
+
+-- The numbers of fields of the kinds 0 to 85, as the code has them
+abbrev pub fieldCounts : List ℕ
+fieldCounts = 0 ∷ 0 ∷ 0 ∷ 0 ∷ 0 ∷ 0 ∷ 0 ∷ 0 ∷ 0 ∷ 0 ∷ 0 ∷ 0 ∷ 0 ∷ 0 ∷ 0 ∷ 0 ∷ 2 ∷ 1 ∷ 1 ∷ 2 ∷ 1 ∷ 1 ∷ 0 ∷ 0 ∷ 0 ∷ 0 ∷ 0 ∷ 0 ∷ 0 ∷ 0 ∷ 0 ∷ 0 ∷ 2 ∷ 2 ∷ 2 ∷ 1 ∷ 1 ∷ 1 ∷ 1 ∷ 1 ∷ 1 ∷ 2 ∷ 1 ∷ 1 ∷ 1 ∷ 2 ∷ 2 ∷ 1 ∷ 0 ∷ 0 ∷ 1 ∷ 0 ∷ 0 ∷ 0 ∷ 0 ∷ 0 ∷ 0 ∷ 0 ∷ 0 ∷ 0 ∷ 0 ∷ 0 ∷ 0 ∷ 0 ∷ 1 ∷ 0 ∷ 1 ∷ 0 ∷ 0 ∷ 0 ∷ 0 ∷ 0 ∷ 0 ∷ 0 ∷ 0 ∷ 0 ∷ 0 ∷ 0 ∷ 0 ∷ 0 ∷ 1 ∷ 2 ∷ 0 ∷ 1 ∷ 0 ∷ 1 ∷ []
+
+pub field-counted : (k : ℕ) → k ≤ 85 → (getD fieldCounts k 0 ≡ shapeOf k .fields) × (getD fieldCounts k 0 ≤ 2)
+unfolding shapeOf allFew
+field-counted k p = let q = counted 0 fieldCounts k k refl (omega arith) (omega arith) in (q, rw q (few shapes k refl))
+
+pub field-beyond : (k : ℕ) → 85 < k → k < 4294967296 → (0 ≡ shapeOf k .fields) × (0 ≤ 2)
+unfolding shapeOf clear
+field-beyond k p q = (ap (λ r. r .fields) (absent 86 4294967296 k shapes refl p q), omega arith)
 
 -- The kinds of a class: every shape of a list that has the class stands at a kind from `low` to `high`
 abbrev pub allWithin : (c low high : ℕ) → List (ℕ × Shape) → Bool

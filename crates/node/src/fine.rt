@@ -1,7 +1,7 @@
 // Entering the records of a module whose layout is checked.
 use crate::bytes::half;
 use crate::bytes::length_at;
-use crate::shape::shape_of;
+use crate::shape::field_count;
 ghost use Rattle.node.specs.Fine.{FineRecord, Enters};
 
 // A record's kind, where its children start, and where they and it stop.
@@ -17,10 +17,9 @@ pub fn enter(s: &[u8], at: usize, end: usize, depth: usize, class: u32) -> Enter
     ensures { λ r. ⌜ Enters (now (s .entry)) depth at end class r ⌝ }
 {
     let kind = half(s, at + 4);
-    let shape = shape_of(kind);
     Entered {
         kind,
-        start: at + 16 + 4 * shape.fields,
+        start: at + 16 + 4 * field_count(kind),
         stop: at + length_at(s, at),
     }
 }

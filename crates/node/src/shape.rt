@@ -1,7 +1,7 @@
 // Document 01's list of records: the shape of each kind, and what is due in each state of a child list.
 ghost use mathlib.Core.Path.{_≡_};
 ghost use Prim.Native.Nat.{_≤_};
-ghost use Rattle.node.specs.Shape.{Shaped, noField, oneField, twoFields, nothingDue, bytesDue, mustBe, mayBe, mayBeEither, dueIn, isDone, mayStand, stateAfter, isBetween, allowed};
+ghost use Rattle.node.specs.Shape.{shapeOf, Shaped, noField, oneField, twoFields, nothingDue, bytesDue, mustBe, mayBe, mayBeEither, dueIn, isDone, mayStand, stateAfter, isBetween, allowed};
 
 // The classes of kinds, each by its lowest kind. A kind that is in no list has class 0.
 pub const UNLISTED: u32 = 0;
@@ -145,9 +145,9 @@ fn type_shape(kind: u32) -> Shape
     }
 }
 
-// E: the expressions.
+// E: the expressions up to the cast.
 fn expression_shape(kind: u32) -> Shape
-    requires { ⌜ (32 ≤ kind) × (kind ≤ 47) ⌝ }
+    requires { ⌜ (32 ≤ kind) × (kind ≤ 38) ⌝ }
     ensures { λ r. ⌜ Shaped kind r ⌝ }
 {
     match kind {
@@ -157,7 +157,16 @@ fn expression_shape(kind: u32) -> Shape
         35 => one_field(EXPRESSION, Rule::Slot, Holds::FreeBytes),
         36 => one_field(EXPRESSION, Rule::Slot, Holds::CallParts),
         37 => one_field(EXPRESSION, Rule::Slot, Holds::TwoExpressions),
-        38 => one_field(EXPRESSION, Rule::Slot, Holds::ExpressionThenType),
+        _ => one_field(EXPRESSION, Rule::Slot, Holds::ExpressionThenType),
+    }
+}
+
+// E: the operators, and the size of a type.
+fn operator_shape(kind: u32) -> Shape
+    requires { ⌜ (39 ≤ kind) × (kind ≤ 47) ⌝ }
+    ensures { λ r. ⌜ Shaped kind r ⌝ }
+{
+    match kind {
         39 => one_field(EXPRESSION, Rule::Slot, Holds::OneExpression),
         40 => one_field(EXPRESSION, Rule::Slot, Holds::OneExpression),
         41 => two_fields(EXPRESSION, Rule::Slot, Rule::Name, Holds::OneExpression),
@@ -224,7 +233,8 @@ pub fn shape_of(kind: u32) -> Shape
         3 => no_field(NAME, Holds::FreeBytes),
         16..=20 => type_shape(kind),
         21 => one_field(FIELD, Rule::Name, Holds::OneType),
-        32..=47 => expression_shape(kind),
+        32..=38 => expression_shape(kind),
+        39..=47 => operator_shape(kind),
         48 => no_field(COMPOUND, Holds::Expressions),
         49 => no_field(COMPOUND, Holds::CompoundFields),
         50 => one_field(COMPOUND_FIELD, Rule::Name, Holds::OneExpression),
@@ -233,6 +243,27 @@ pub fn shape_of(kind: u32) -> Shape
         85 => one_field(PARAMETER, Rule::Name, Holds::OneType),
         _ => no_field(UNLISTED, Holds::Nothing),
     }
+}
+
+// How many fields the kinds 0 to 85 have, sixteen kinds a line.
+#[rattlefmt::skip]
+const FIELD_COUNTS: [u8; 86] = [
+    0, 0, 0, 0, 0, 0, 0, 0, 0, 0, 0, 0, 0, 0, 0, 0,
+    2, 1, 1, 2, 1, 1, 0, 0, 0, 0, 0, 0, 0, 0, 0, 0,
+    2, 2, 2, 1, 1, 1, 1, 1, 1, 2, 1, 1, 1, 2, 2, 1,
+    0, 0, 1, 0, 0, 0, 0, 0, 0, 0, 0, 0, 0, 0, 0, 0,
+    1, 0, 1, 0, 0, 0, 0, 0, 0, 0, 0, 0, 0, 0, 0, 0,
+    1, 2, 0, 1, 0, 1,
+];
+
+// How many fields a kind has: less work than its whole shape.
+pub fn field_count(kind: u32) -> usize
+    ensures { λ r. ⌜ (r ≡ shapeOf kind .fields) × (r ≤ 2) ⌝ }
+{
+    if PARAMETER < kind {
+        return 0;
+    }
+    FIELD_COUNTS[kind as usize] as usize
 }
 
 // Nothing more.

@@ -52,31 +52,33 @@ module _ (s : List ℕ) (at ty : ℕ) (work e : List ℕ) (st : State) (name : �
         (holds-none w (st .rows) (getD work (wordPlace (nameAt s at) 2) 0) (ctx .inFunction .variables (nameAt s at)) (omega (arith, held)) (h .holds p (nameAt s at) 2 (omega arith) l))
 
   -- A redefinition
-  pub local-kept : 0 < earlier → {x : Error} → x ≡ errorFor s at 7 name 0 0 → {e′ : List ℕ} {st′ : State} → Reported e st x e′ st′ → LocalDeclared s at ty work e st work e′ st′
+  pub local-kept : 0 < earlier → {x : Error} → x ≡ errorFor s at 7 name 0 0 → {e′ : List ℕ} {st′ : State} → Reported e st x e′ st′ → LocalDeclared s at ty work e st work e′ (record { ty = ty; state = st′ })
   unfolding SpellsOperand isTypeOperand operandSort
   local-kept q {x} ex {e′} {st′} r =
       record {
         wide = refl;
+        compared = refl;
         walked = λ o w from to g is.
             walked-room (walked-report g (λ ctx. localRedefined (locationAt s at) (nameAt s at)) r
             (λ ctx h p. rw ex (spells-at s at 7 (refl, read .is) (refl, refl) (refl, refl))))
             (λ ctx h p. ap (λ (b : Bool). reporting (unless (not b) (localRedefined (locationAt s at) (nameAt s at)))) (sym (is-local o w ctx p h q)));
-        scope = λ o w ctx t g h ty.
+        scope = λ o w ctx t g h typing.
             let grew = grew-report g r in
             scope-if-room (λ p. subst (Scope (lent work o e′ w st′)) (ap (λ (b : Bool). cond b ctx (withLocal (entry (nameAt s at) t) ctx)) (sym (is-local o w ctx (had-room grew p) h q))) (scope-later grew h));
       }
 
   -- A local that is new
-  pub local-new : earlier < 1 → {work′ : List ℕ} → work′ ≡ set work (wordPlace name 2) ty → LocalDeclared s at ty work e st work′ e st
-  local-new q {work′} ew = subst (λ (x : List ℕ). LocalDeclared s at ty work e st x e st) (sym there) new
+  pub local-new : earlier < 1 → {work′ : List ℕ} → work′ ≡ set work (wordPlace name 2) ty → LocalDeclared s at ty work e st work′ e (record { ty = ty; state = st })
+  local-new q {work′} ew = subst (λ (x : List ℕ). LocalDeclared s at ty work e st x e (record { ty = ty; state = st })) (sym there) new
     where
       there : work′ ≡ set work (wordPlace (nameAt s at) 2) ty
       there = ew ∙ ap (λ (n : ℕ). set work (wordPlace n 2) ty) (read .is)
 
-      new : LocalDeclared s at ty work e st (set work (wordPlace (nameAt s at) 2) ty) e st
+      new : LocalDeclared s at ty work e st (set work (wordPlace (nameAt s at) 2) ty) e (record { ty = ty; state = st })
       new =
           record {
             wide = length-set work (wordPlace (nameAt s at) 2) ty;
+            compared = refl;
             walked = λ o w from to g is.
                 walked-room {a = λ ctx. nothing} (walked-set (nameAt s at) 2 ty l g (record { either = inr is }))
                 (λ ctx h p. ap (λ (b : Bool). reporting (unless (not b) (localRedefined (locationAt s at) (nameAt s at)))) (sym (no-local o w ctx p h q)));

@@ -5,13 +5,10 @@ use mathlib.Core.Bool.{true}
 use mathlib.Core.List.{List, [], _++_}
 use mathlib.Core.Option.{none, some}
 use native.Mathlib.Omega.{arith}
-use lib.Dec.{eqb}
 use lib.ListN.{length}
-use Rattle.types.specs.Ty.{Ty, void, bool, same}
-use Rattle.types.specs.Table.{unfolded}
-use Rattle.types.proofs.Fixed.{fixed-is, void-row}
+use Rattle.types.specs.Ty.{Ty, bool}
+use Rattle.types.proofs.Fixed.{fixed-is}
 use Rattle.relations.specs.Entry.{OneType, TwoTypes}
-use Rattle.fallible.specs.Operands.{isTypeOperand, operandSort}
 use Rattle.node.specs.Bytes.{Read, wordAt}
 use Rattle.node.specs.Shape.{aType, anExpression, aCompound, aStatement}
 use Rattle.node.specs.Layout.{kindAt, startAt, stopAt}
@@ -30,6 +27,7 @@ use Rattle.meaning.specs.Expression.{expressionType, expressionErrors, expressi
 use Rattle.meaning.specs.Compound.{compoundErrors, compoundSlots, initialErrors, initialSlots}
 use Rattle.meaning.specs.Statement.{declareLocal, contextAfter, returnErrors, statementErrors, statementSlots}
 use Rattle.state.specs.declared.State.{State}
+use Rattle.state.specs.declared.Typed.{Typed}
 use Rattle.state.specs.Effect.{reporting}
 use Rattle.state.specs.Words.{wordPlace}
 use Rattle.state.specs.Represents.{Lent, lent, Scope}
@@ -37,10 +35,8 @@ use Rattle.state.specs.Post.{Walked}
 use Rattle.state.proofs.Laws.{typing-later, scope-later}
 use Rattle.state.proofs.Walks.{typing-bool, walked-then, walked-as, walked-is, walked-at, walked-wider}
 use Rattle.convert.specs.Convert.{visiting}
-use Rattle.convert.specs.Post.{Ready, Converted, errorFor}
-use Rattle.rules.specs.Rules.{Operands, Two, ReportedUnless, CheckAssignable}
-use Rattle.rules.proofs.Laws.{checks-row}
-use Rattle.rules.proofs.Exits.{same-rows}
+use Rattle.convert.specs.Post.{Ready, Converted}
+use Rattle.rules.specs.Rules.{Operands, Two, CheckAssignable}
 use Rattle.divergence.proofs.Walk.{bounds}
 use Rattle.expression.specs.Post.{CarriedAt}
 use Rattle.expression.proofs.Heads.{stops-at, fine-at}
@@ -49,7 +45,7 @@ use Rattle.expression.proofs.Visits.{visit-then, visit-steps}
 use Rattle.compound.specs.Post.{Target, Aimed, CompoundCheckedAt}
 use Rattle.compound.proofs.Compounds.{told-then}
 use Rattle.initial.specs.Post.{InitialCheckedAt, initialAt}
-use Rattle.statement.specs.Post.{Inside, StatementChecked, StatementCheckedAt, redefinitionErrors, LocalDeclared, ConditionCheckedAt}
+use Rattle.statement.specs.Post.{Inside, StatementChecked, StatementCheckedAt, redefinitionErrors, LocalDeclared, ReturnedNothing, ConditionCheckedAt}
 use Rattle.statement.proofs.Contexts.{declare-kept, inside-after, walked-given}
 
 -- Two visits, one after the other, within a bound on the rows asked for
@@ -165,23 +161,19 @@ module _ {s : List ℕ} {depth at : ℕ} (f : FineRecord s depth at (length s) a
   -- 69: a return
   module _ (k : kindAt s at ≡ 69) {len : ℕ} (el : Read (wordAt s at) 32 len) where
     -- without a value
-    pub return-checked : {names : BuiltIns} {work o e w : List ℕ} {st : State} {returned : ℕ} → len ≤ 16 → Ready s (lent work o e w st) → OneType w (st .rows) returned
-        → {e′ : List ℕ} {st′ : State} → ReportedUnless (eqb returned 2) (errorFor s at 9 returned 0 0) e st e′ st′
+    pub return-checked : {names : BuiltIns} {work o e w : List ℕ} {st : State} {returned : ℕ} → len ≤ 16 → Ready s (lent work o e w st)
+        → {e′ : List ℕ} {st′ : State} → ReturnedNothing s at returned w e st e′ st′
         → StatementCheckedAt s names depth at returned (lent work o e w st) (lent work o e′ w st′)
-    unfolding contextAfter statementErrors statementSlots isTypeOperand operandSort
-    return-checked {names} {work} {o} {e} {w} {st} {returned} few ready one {e′} {st′} rep =
+    unfolding contextAfter statementErrors statementSlots
+    return-checked {work = work} {o = o} few ready leaf =
         let p = statement-return s depth at (length s) f k in
         let b = bounds s depth at (length s) aStatement f in
         let l = locationAt s at in
         let here : at + 16 ≡ stopAt s at = omega (arith, b .head, stops-at s at len el) in
         let tree : statementAt s depth at ≡ return l none = p .is ∙ ap (return l) (ap (λ (x : ℕ). toOptional (recordsAt s (depth - 1) x (stopAt s at))) here ∙ optional-none s (depth - 1) (stopAt s at)) in
-        let table = ready .good .table in
-        let two = two-types {C = lent work o e w st} (ready .good) (one .type) (fixed-is w (st .rows) table 2 (omega arith) (omega arith)) in
-        let test : eqb returned 2 ≡ same (unfolded w returned) void = same-rows w (st .rows) returned 2 two ∙ ap (same (unfolded w returned)) (void-row w (st .rows) table) in
-        let checks = checks-row {Given = λ C ctx. Inside s names C returned ctx} s at returned (λ ctx. ctx .inFunction .returnType) (λ C ctx h. h .returns) 9 refl refl refl (λ t. same t void)
-        (eqb returned 2) test rep in
         plain-checked depth (return l none) tree refl (λ ctx. refl)
-        (walked-as (checks .walked work o at (stopAt s at) (ready .good)) (λ ctx. visit-steps [] (returnErrors ctx l none) 0 (stopAt s at - at) (omega arith)))
+        (walked-as (walked-given (walked-at (λ (ctx : Context). ctx .inFunction .returnType) (leaf .walked work o at (stopAt s at) (ready .good))) (λ ctx h. h .returns))
+        (λ ctx. visit-steps [] (returnErrors ctx l none) 0 (stopAt s at - at) (omega arith)))
 
     -- with a value
     pub returned-fine : 16 < len → FineRecord s (depth - 1) (at + 16) (length s) anExpression
@@ -226,13 +218,13 @@ module _ {s : List ℕ} {depth at : ℕ} (f : FineRecord s depth at (length s) a
           subst (λ (x : ℕ). FineList s (depth - 1) x stop holds.InitialValue) (sym ev)
           (subst (λ (x : ℕ). FineList s (depth - 1) (stopAt s (at + 20)) x holds.InitialValue) (sym es) (statement-variable s depth at (length s) f k .value))
 
-      module _ {names : BuiltIns} {work o e w o₁ e₁ w₁ work′ e₂ : List ℕ} {st st₁ st₂ : State} {ty : ℕ} (ready : Ready s (lent work o e w st))
+      module _ {names : BuiltIns} {work o e w o₁ e₁ w₁ work′ e₂ : List ℕ} {st st₁ : State} {ty : ℕ} {r : Typed} (ready : Ready s (lent work o e w st))
           (t : Converted s names (typeAt s (depth - 1) (at + 20)) (at + 20) (stopAt s (at + 20)) true (lent work o e w st) (lent work o₁ e₁ w₁ st₁) ty)
-          (local : LocalDeclared s at ty work e₁ st₁ work′ e₂ st₂) where
-        entered : Walked (Scope (lent work o₁ e₁ w₁ st₁)) (λ ctx. reporting (redefinitionErrors ctx (locationAt s at) (wordAt s (at + 16)))) at (stopAt s at) (lent work o₁ e₁ w₁ st₁) (lent work′ o₁ e₂ w₁ st₂)
+          (local : LocalDeclared s at ty work e₁ st₁ work′ e₂ r) where
+        entered : Walked (Scope (lent work o₁ e₁ w₁ st₁)) (λ ctx. reporting (redefinitionErrors ctx (locationAt s at) (wordAt s (at + 16)))) at (stopAt s at) (lent work o₁ e₁ w₁ st₁) (lent work′ o₁ e₂ w₁ (r .state))
         entered = local .walked o₁ w₁ at (stopAt s at) (t .walked .walked .grew .good) (t .walked .is)
 
-        pub declared-ready : Ready s (lent work′ o₁ e₂ w₁ st₂)
+        pub declared-ready : Ready s (lent work′ o₁ e₂ w₁ (r .state))
         declared-ready =
             record {
               good = entered .grew .good;
@@ -240,11 +232,11 @@ module _ {s : List ℕ} {depth at : ℕ} (f : FineRecord s depth at (length s) a
               wide = omega (arith, ready .wide, local .wide);
             }
 
-        pub declared-type : OneType w₁ (st₂ .rows) ty
-        declared-type = one-type {C = lent work′ o₁ e₂ w₁ st₂} (entered .grew .good) (type-later (entered .grew) (t .walked .is))
+        pub declared-type : OneType w₁ (r .state .rows) (r .ty)
+        declared-type = rw (local .compared) (one-type {C = lent work′ o₁ e₂ w₁ (r .state)} (entered .grew .good) (type-later (entered .grew) (t .walked .is)))
 
         pub variable-checked : {o₃ e₃ w₃ : List ℕ} {st₃ : State}
-            → InitialCheckedAt s names (depth - 1) value stop true ty (lent work′ o₁ e₂ w₁ st₂) (lent work′ o₃ e₃ w₃ st₃)
+            → InitialCheckedAt s names (depth - 1) value stop true (r .ty) (lent work′ o₁ e₂ w₁ (r .state)) (lent work′ o₃ e₃ w₃ st₃)
             → (returned : ℕ) → StatementCheckedAt s names depth at returned (lent work o e w st) (lent work′ o₃ e₃ w₃ st₃)
         unfolding contextAfter statementErrors statementSlots
         variable-checked {o₃} {e₃} {w₃} {st₃} init returned =
@@ -258,7 +250,7 @@ module _ {s : List ℕ} {depth at : ℕ} (f : FineRecord s depth at (length s) a
             B = lent work o₁ e₁ w₁ st₁
 
             C : Lent
-            C = lent work′ o₁ e₂ w₁ st₂
+            C = lent work′ o₁ e₂ w₁ (r .state)
 
             D : Lent
             D = lent work′ o₃ e₃ w₃ st₃
@@ -303,11 +295,11 @@ module _ {s : List ℕ} {depth at : ℕ} (f : FineRecord s depth at (length s) a
                 (walked-given (walked-wider (omega arith) below (t .walked .walked)) (λ ctx h. h .resolves)) entered
                 (λ ctx h. scope-later (t .walked .walked .grew) (h .resolves .scope)) (omega arith)
 
-            aimed : (ctx : Context) → Inside s names A returned ctx → Aimed s names C ty (after ctx)
+            aimed : (ctx : Context) → Inside s names A returned ctx → Aimed s names C (r .ty) (after ctx)
             aimed ctx h =
                 record {
                   resolves = inside-after (declared .grew) (declare-kept ctx name (typed ctx)) (scope ctx h) h .resolves;
-                  typing = typing-later (entered .grew) (t .walked .typing ctx (h .resolves));
+                  typing = rw (local .compared) (typing-later (entered .grew) (t .walked .typing ctx (h .resolves)));
                 }
 
             walk : Walked (Inside s names A returned) (λ ctx. visiting true (conversionSlots (ctx .inModule) type ++ initialSlots (declareLocal ctx name (typed ctx)) v)

@@ -10,6 +10,7 @@ use node::bytes::word;
 use node::names::BuiltIns;
 use rules::check_types_are_assignable;
 use state::State;
+use state::Typed;
 ghost use mathlib.Core.Path.{_≡_};
 ghost use Prim.Native.Nat.{_+_, _-_, _<_, _≤_};
 ghost use lib.ListN.{length};
@@ -23,7 +24,7 @@ ghost use Rattle.state.specs.Words.{wordPlace};
 ghost use Rattle.state.specs.Represents.{lent};
 ghost use Rattle.convert.specs.Post.{Ready};
 ghost use Rattle.divergence.specs.InnerStatements.{InnerOf};
-ghost use Rattle.statement.specs.Post.{StatementCheckedAt, CheckedForAny, BlockCheckedAt, LocalDeclared, ConditionCheckedAt, OwnPartsChecked};
+ghost use Rattle.statement.specs.Post.{StatementCheckedAt, CheckedForAny, BlockCheckedAt, LocalDeclared, ReturnedNothing, ConditionCheckedAt, OwnPartsChecked};
 
 // Bytes of a statement before its parts, and of a declaration.
 const PARTS: usize = 16;
@@ -35,7 +36,7 @@ const LOCAL_REDEFINED: u32 = 7;
 
 const RETURN_NEEDS_VALUE: u32 = 9;
 
-// Enters a local of the type row `ty`, unless there is one of that name already.
+// Enters a local of the type row `ty`, unless there is one of that name already. Its value is compared with `ty` either way.
 fn declare_local(
     s: &[u8],
     at: usize,
@@ -43,7 +44,7 @@ fn declare_local(
     work: &mut [u32],
     errors: &mut [u32],
     state: State,
-) -> State
+) -> Typed
     requires { ⌜ (at + 20 ≤ length (now s)) × (wordPlace (wordAt (now s) (at + 16)) 2 < length (now work)) ⌝ }
     ensures { λ r. ⌜ LocalDeclared (now (s .entry)) at ty (now (work .entry)) (now (errors .entry)) state (now (work .exit)) (now (errors .exit)) r ⌝ }
 {
@@ -51,10 +52,11 @@ fn declare_local(
     let earlier = state::word_of(work, name, state::LOCAL);
     if 0 < earlier {
         let error = error_at(s, at, LOCAL_REDEFINED, name, 0, 0);
-        return state::report(errors, state, error);
+        let next = state::report(errors, state, error);
+        return Typed { ty, state: next };
     }
     state::set_word(work, name, state::LOCAL, ty);
-    state
+    Typed { ty, state }
 }
 
 // A declaration: its type, the local, its value.
@@ -74,7 +76,7 @@ fn variable_declaration(
     ensures { λ r. ⌜ CheckedForAny (now (s .entry)) names depth at (lent (now (work .entry)) (now (output .entry)) (now (errors .entry)) (now (rows .entry)) state) (lent (now (work .exit)) (now (output .exit)) (now (errors .exit)) (now (rows .exit)) r) ⌝ }
 {
     let start = at + NAMED_PARTS;
-    let declared = convert_node_type(
+    let converted = convert_node_type(
         s,
         Pass { names, fill: true },
         work,
@@ -85,8 +87,7 @@ fn variable_declaration(
         rows,
         state,
     );
-    let ty = declared.ty;
-    let next = declare_local(s, at, ty, work, errors, declared.state);
+    let local = declare_local(s, at, converted.ty, work, errors, converted.state);
     let stop = at + length_at(s, at);
     let value = start + length_at(s, start);
     initial::type_check_initial(
@@ -97,11 +98,11 @@ fn variable_declaration(
         stop,
         depth - 1,
         true,
-        ty,
+        local.ty,
         output,
         errors,
         rows,
-        next,
+        local.state,
     )
 }
 
@@ -191,7 +192,33 @@ fn compound_assignment(
     )
 }
 
-// A return: with a value of the type row `returned`, or without one where void itself is returned.
+// A return without a value, where the type row `returned` is to be returned: permitted for void itself, not for an alias of it.
+fn return_without_value(
+    s: &[u8],
+    at: usize,
+    returned: u32,
+    errors: &mut [u32],
+    rows: &[u32],
+    state: State,
+) -> State
+    requires { ⌜ (at + 16 ≤ length (now s)) × OneType (now rows) (state .rows) returned ⌝ }
+    ensures { λ r. ⌜ ReturnedNothing (now (s .entry)) at returned (now (rows .entry)) (now (errors .entry)) state (now (errors .exit)) r ⌝ }
+{
+    let holds = types::kind(rows, state.rows, returned) == types::VOID;
+    rules::report_unless(
+        holds,
+        s,
+        at,
+        RETURN_NEEDS_VALUE,
+        returned,
+        0,
+        0,
+        errors,
+        state,
+    )
+}
+
+// A return: with a value of the type row `returned`, or without one.
 fn return_statement(
     s: &[u8],
     names: BuiltIns,
@@ -209,17 +236,7 @@ fn return_statement(
     ensures { λ r. ⌜ StatementCheckedAt (now (s .entry)) names depth at returned (lent (now (work .entry)) (now (output .entry)) (now (errors .entry)) (now (rows .entry)) state) (lent (now (work .entry)) (now (output .exit)) (now (errors .exit)) (now (rows .exit)) r) ⌝ }
 {
     if length_at(s, at) <= PARTS {
-        return rules::report_unless(
-            returned == types::VOID,
-            s,
-            at,
-            RETURN_NEEDS_VALUE,
-            returned,
-            0,
-            0,
-            errors,
-            state,
-        );
+        return return_without_value(s, at, returned, errors, rows, state);
     }
     let value = type_check_expression(
         s,

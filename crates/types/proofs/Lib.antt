@@ -4,6 +4,7 @@ pub mod Query
 pub mod Lists
 pub mod Decide
 pub mod Validate
+pub mod Search
 pub mod Fixed
 pub mod Set
 pub mod Append

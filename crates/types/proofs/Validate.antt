@@ -15,7 +15,7 @@ use Rattle.types.specs.Post.{Found}
 use Rattle.types.proofs.Decide.{holds, fails}
 
 -- What is left out below m + 1 stands at m + 1
-last-or : (m i : ℕ) → i ≤ m + 1 → (P : Type 0) → (i ≤ m → P) → (i ≡ m + 1 → P) → P
+pub last-or : (m i : ℕ) → i ≤ m + 1 → (P : Type 0) → (i ≤ m → P) → (i ≡ m + 1 → P) → P
 last-or m i h P below last = ⊎-elim (λ (l : i ≤ m). below l) (λ (e : i ≡ suc m). let e′ : i ≡ m + 1 = omega arith in last e′) (le-suc-iff .0 (rw add-one at h))
 
 -- One more row that is like none of the rows 1 to m
@@ -26,27 +26,6 @@ distinct-more w m lower new i j li hi lj hj e =
     last-or m i hi (i ≡ j)
     (λ bi. last-or m j hj (i ≡ j) (λ bj. lower i j li bi lj bj e) (λ ej. absurd (new i li bi (e ∙ ap (rowAt w) ej))))
     (λ ei. last-or m j hj (i ≡ j) (λ bj. absurd (new j lj bj (sym e ∙ ap (rowAt w) ei))) (λ ej. ei ∙ sym ej))
-
--- None of the rows past row m, as far as row n, has the words r
-pub record Unlike (w : List ℕ) (m : ℕ) (r : Words) (n : ℕ) : Type 0 where
-  pub unlike : (i : ℕ) → m < i → i ≤ n → rowAt w i ≡ r → ⊥
-
-pub unlike-none : (w : List ℕ) (m : ℕ) (r : Words) → Unlike w m r m
-unlike-none w m r = record { unlike = λ i l h. absurd (omega arith) }
-
-module _ (w : List ℕ) (m : ℕ) (r : Words) (n : ℕ) where
-  pub found-none : (count : ℕ) → Unlike w m r n → count ≤ n → Found w m count r 0
-  found-none count s h = record { high = omega arith; past = λ l. absurd (omega arith); found = λ l. absurd (omega arith); absent = λ z i l b. s .unlike i l (omega arith) }
-
-  module _ (q : Words) (e : q ≡ rowAt w (n + 1)) (b : Bool) (d : Decides (q ≡ r) b) where
-    pub found-here : (count : ℕ) → m ≤ n → n < count → b ≡ true → Found w m count r (n + 1)
-    found-here count l h t = record { high = omega arith; past = λ k. omega arith; found = λ k. sym e ∙ d .yes t; absent = λ z. absurd (omega arith) }
-
-    pub unlike-more : Unlike w m r n → b ≡ false → Unlike w m r (n + 1)
-    unlike-more s f =
-        record {
-          unlike = λ i l h. last-or n i h (rowAt w i ≡ r → ⊥) (λ lower. s .unlike i l lower) (λ here p. d .no f (e ∙ ap (rowAt w) (sym here) ∙ p));
-        }
 
 -- The rows 1 to m obey the rules
 pub record Rows (w : List ℕ) (m : ℕ) : Type 0 where

@@ -5,7 +5,7 @@ ghost use Prim.Native.Nat.{_+_, _*_, _^_, _≤_, _<_};
 ghost use lib.ListN.{length};
 ghost use Rattle.types.specs.Ty.{kindOf, firstOf, secondOf, sizeOf, nameOf, desugar as desugared, removeAliasing, cellCount, fieldNamed, arrayKind, structKind, functionKind, fieldKind, argumentKind};
 ghost use Rattle.types.specs.Table.{words, rowWidth, fixedCount, rowAt, unfolded, FixedRows, firstPart, secondPart, Table, RowOk, PartOk, NameOk, IsType, IsCell, IsList, Decides};
-ghost use Rattle.types.specs.Post.{wordsOf, stored, highestPart, PartsOk, InternPost, FixedStored, Found, HasTypePart, TypePart, CellPart, FoundType};
+ghost use Rattle.types.specs.Post.{wordsOf, stored, highestPart, PartsOk, InternPost, FixedStored, KeyOf, NoneWith, Skipped, NextWith, Found, HasTypePart, TypePart, CellPart, FoundType};
 
 // Words in a row.
 pub const ROW_WIDTH: usize = 4;
@@ -117,6 +117,12 @@ pub enum Row {
     DistinctAlias { ty: u32, name: u32 },
     Field { ty: u32, rest: u32, name: u32 },
     Argument { ty: u32, rest: u32 },
+}
+
+// A word of a row, and its place in it.
+struct Key {
+    place: usize,
+    word: u32,
 }
 
 // The answer of `intern`: the row's number and the new count, or no room for one more row.
@@ -402,19 +408,97 @@ fn alike(a: Words, b: Words) -> bool
     a.kind == b.kind
 }
 
+// The word by which a row is looked for, since few rows have it: the name, or the second word, or the first, whichever is not 0.
+fn key_of(row: Words) -> Key
+    ensures { λ r. ⌜ KeyOf row r ⌝ }
+{
+    if row.name != 0 {
+        return Key {
+            place: 3,
+            word: row.name,
+        };
+    }
+    if row.second != 0 {
+        return Key {
+            place: 2,
+            word: row.second,
+        };
+    }
+    Key {
+        place: 1,
+        word: row.first,
+    }
+}
+
+// Whether none of the four rows past row n has the key.
+fn none_of_four(rows: &[u32], n: u32, key: Key) -> bool
+    requires { ⌜ (key .place < rowWidth) × (rowWidth * n + rowWidth * 4 ≤ length (now rows)) ⌝ }
+    ensures { λ r. ⌜ Decides (NoneWith (now (rows .entry)) key n (n + 4)) r ⌝ }
+{
+    let at = ROW_WIDTH * (n as usize) + key.place;
+    if rows[at] == key.word {
+        return false;
+    }
+    if rows[at + ROW_WIDTH] == key.word {
+        return false;
+    }
+    if rows[at + ROW_WIDTH * 2] == key.word {
+        return false;
+    }
+    if rows[at + ROW_WIDTH * 3] == key.word {
+        return false;
+    }
+    true
+}
+
+// Goes on from row m, four rows at a time, while none of them has the key.
+fn skip_rows(rows: &[u32], m: u32, count: u32, key: Key) -> u32
+    requires { ⌜ (key .place < rowWidth) × (m ≤ count) × (rowWidth * count ≤ length (now rows)) ⌝ }
+    ensures { λ r. ⌜ Skipped (now (rows .entry)) m count key r ⌝ }
+{
+    let mut n = m;
+    while 4 <= count - n {
+        if !none_of_four(rows, n, key) {
+            return n;
+        }
+        n += 4;
+    }
+    n
+}
+
+// The first row past row m that has the key, or 0.
+fn next_with(rows: &[u32], m: u32, count: u32, key: Key) -> u32
+    requires { ⌜ (key .place < rowWidth) × (m ≤ count) × (rowWidth * count ≤ length (now rows)) ⌝ }
+    ensures { λ r. ⌜ NextWith (now (rows .entry)) m count key r ⌝ }
+{
+    let mut n = skip_rows(rows, m, count, key);
+    while n < count {
+        let at = ROW_WIDTH * (n as usize) + key.place;
+        n += 1;
+        if rows[at] == key.word {
+            return n;
+        }
+    }
+    0
+}
+
 // The row past row m that has these words, or 0.
 fn find(rows: &[u32], m: u32, count: u32, row: Words) -> u32
     requires { ⌜ (m ≤ count) × (rowWidth * count ≤ length (now rows)) ⌝ }
     ensures { λ r. ⌜ Found (now (rows .entry)) m count row r ⌝ }
 {
+    let key = key_of(row);
     let mut n = m;
-    while n < count {
-        n += 1;
-        if alike(row_at(rows, n), row) {
-            return n;
+    loop {
+        let next = next_with(rows, n, count, key);
+        if next == 0 {
+            return 0;
         }
+        if alike(row_at(rows, next), row) {
+            return next;
+        }
+        n = next;
     }
-    0
 }
 
 // Whether the first `count` rows obey the rules.

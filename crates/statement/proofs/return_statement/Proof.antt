@@ -11,19 +11,22 @@ use Rattle.statement.proofs.return_statement.Lts as lts
 use Rattle.expression.proofs.type_check_expression.Reads as type-check-expression-reads
 use Rattle.node.proofs.bytes.length_at.Reads as length-at-reads
 use Rattle.rules.proofs.check_types_are_assignable.Reads as check-types-are-assignable-reads
-use Rattle.rules.proofs.report_unless.Reads as report-unless-reads
+use Rattle.statement.proofs.return_without_value.Reads as return-without-value-reads
 
 length-at-requires : tie.Need-length-at-requires
 length-at-requires c κs = omega (arith, bounds _ _ _ _ _ (c .before .before .before .before .before .pre .0 .0) .head, bounds _ _ _ _ _ (c .before .before .before .before .before .pre .0 .0) .stop)
 
-report-unless-requires : tie.Need-report-unless-requires
-report-unless-requires c κs = omega (arith, bounds _ _ _ _ _ (c .before .before .before .before .before .before .before .before .pre .0 .0) .head, bounds _ _ _ _ _ (c .before .before .before .before .before .before .before .before .pre .0 .0) .stop)
+return-without-value-requires : tie.Need-return-without-value-requires
+return-without-value-requires c κs = (omega (arith, bounds _ _ _ _ _ (c .before .before .before .before .before .before .before .before .before .pre .0 .0) .head, bounds _ _ _ _ _ (c .before .before .before .before .before .before .before .before .before .pre .0 .0) .stop), c .before .before .before .before .before .before .before .before .before .pre .1 .1)
 
 same-length : tie.Need-same-length
 same-length c = search needs
 
+same-length-2 : tie.Need-same-length-2
+same-length-2 c = search needs
+
 returns : tie.Need-returns
-returns c = laws.return-checked (c .before .before .before .before .before .before .before .before .before .before .before .pre .0 .0) (c .before .before .before .before .before .before .before .before .before .before .before .pre .0 .1) (c .before .before .before .before .before .length-at .ensures) (c .before .before .before .before .if1 .taken) (c .before .before .before .before .before .before .before .before .before .before .before .pre .1 .0) (c .before .before .before .before .before .before .before .before .before .before .before .pre .1 .1) (c .before .before .report-unless .ensures)
+returns c = laws.return-checked (c .before .before .before .before .before .before .before .before .before .before .before .before .pre .0 .0) (c .before .before .before .before .before .before .before .before .before .before .before .before .pre .0 .1) (c .before .before .before .before .before .before .length-at .ensures) (c .before .before .before .before .before .if1 .taken) (c .before .before .before .before .before .before .before .before .before .before .before .before .pre .1 .0) (c .before .before .return-without-value .ensures)
 
 add-type-check-expression : tie.Need-add-type-check-expression
 add-type-check-expression c = search needs
@@ -37,14 +40,14 @@ type-check-expression-requires c κs = (laws.returned-fine (c .before .before .b
 check-types-are-assignable-requires : tie.Need-check-types-are-assignable-requires
 check-types-are-assignable-requires c κs = (omega (arith, bounds _ _ _ _ _ (c .before .before .before .before .before .before .before .before .before .before .before .before .before .before .before .before .before .before .before .pre .0 .0) .head, bounds _ _ _ _ _ (c .before .before .before .before .before .before .before .before .before .before .before .before .before .before .before .before .before .before .before .pre .0 .0) .stop), two-types (c .before .before .before .before .before .before .before .before .type-check-expression .ensures .walked .walked .grew .good) (type-later (c .before .before .before .before .before .before .before .before .type-check-expression .ensures .walked .walked .grew) (c .before .before .before .before .before .before .before .before .before .before .before .before .before .before .before .before .before .before .before .pre .1 .1 .type)) (c .before .before .before .before .before .before .before .before .type-check-expression .ensures .walked .is))
 
-same-length-2 : tie.Need-same-length-2
-same-length-2 c = search needs
-
 same-length-3 : tie.Need-same-length-3
 same-length-3 c = search needs
 
 same-length-4 : tie.Need-same-length-4
 same-length-4 c = search needs
+
+same-length-5 : tie.Need-same-length-5
+same-length-5 c = search needs
 
 returns-2 : tie.Need-returns-2
 returns-2 c = laws.return-value-checked (c .before .before .before .before .before .before .before .before .before .before .before .before .before .before .before .before .before .before .before .before .before .before .pre .0 .0) (c .before .before .before .before .before .before .before .before .before .before .before .before .before .before .before .before .before .before .before .before .before .before .pre .0 .1) (c .before .before .before .before .before .before .before .before .before .before .before .before .before .before .before .before .length-at .ensures) (c .before .before .before .before .before .before .before .before .before .before .before .before .before .before .before .if1 .left) (c .before .before .before .before .before .before .before .before .before .before .before .type-check-expression .ensures) (c .before .before .check-types-are-assignable .ensures)
@@ -54,14 +57,15 @@ return-statement-spec =
     tie.close
     (tie.spec
     length-at-requires
-    report-unless-requires
+    return-without-value-requires
     same-length
+    same-length-2
     returns
     add-type-check-expression
     sub-type-check-expression
     type-check-expression-requires
     check-types-are-assignable-requires
-    same-length-2
     same-length-3
     same-length-4
+    same-length-5
     returns-2)

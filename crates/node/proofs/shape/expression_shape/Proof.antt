@@ -27,33 +27,6 @@ one-field-requires-3 c κs = search needs
 one-field-requires-4 : tie.Need-one-field-requires-4
 one-field-requires-4 c κs = search needs
 
-one-field-requires-5 : tie.Need-one-field-requires-5
-one-field-requires-5 c κs = search needs
-
-one-field-requires-6 : tie.Need-one-field-requires-6
-one-field-requires-6 c κs = search needs
-
-two-fields-requires-4 : tie.Need-two-fields-requires-4
-two-fields-requires-4 c κs = search needs
-
-one-field-requires-7 : tie.Need-one-field-requires-7
-one-field-requires-7 c κs = search needs
-
-one-field-requires-8 : tie.Need-one-field-requires-8
-one-field-requires-8 c κs = search needs
-
-one-field-requires-9 : tie.Need-one-field-requires-9
-one-field-requires-9 c κs = search needs
-
-two-fields-requires-5 : tie.Need-two-fields-requires-5
-two-fields-requires-5 c κs = search needs
-
-two-fields-requires-6 : tie.Need-two-fields-requires-6
-two-fields-requires-6 c κs = search needs
-
-one-field-requires-10 : tie.Need-one-field-requires-10
-one-field-requires-10 c κs = search needs
-
 returns : tie.Need-returns
 unfolding shapeOf
 returns c = shaped _ 32 (c .before .match .keys1) (c .two-fields .ensures)
@@ -80,43 +53,7 @@ returns-6 c = shaped _ 37 (c .before .match .keys6) (c .one-field3 .ensures)
 
 returns-7 : tie.Need-returns-7
 unfolding shapeOf
-returns-7 c = shaped _ 38 (c .before .match .keys7) (c .one-field4 .ensures)
-
-returns-8 : tie.Need-returns-8
-unfolding shapeOf
-returns-8 c = shaped _ 39 (c .before .match .keys8) (c .one-field5 .ensures)
-
-returns-9 : tie.Need-returns-9
-unfolding shapeOf
-returns-9 c = shaped _ 40 (c .before .match .keys9) (c .one-field6 .ensures)
-
-returns-10 : tie.Need-returns-10
-unfolding shapeOf
-returns-10 c = shaped _ 41 (c .before .match .keys10) (c .two-fields4 .ensures)
-
-returns-11 : tie.Need-returns-11
-unfolding shapeOf
-returns-11 c = shaped _ 42 (c .before .match .keys11) (c .one-field7 .ensures)
-
-returns-12 : tie.Need-returns-12
-unfolding shapeOf
-returns-12 c = shaped _ 43 (c .before .match .keys12) (c .one-field8 .ensures)
-
-returns-13 : tie.Need-returns-13
-unfolding shapeOf
-returns-13 c = shaped _ 44 (c .before .match .keys13) (c .one-field9 .ensures)
-
-returns-14 : tie.Need-returns-14
-unfolding shapeOf
-returns-14 c = shaped _ 45 (c .before .match .keys14) (c .two-fields5 .ensures)
-
-returns-15 : tie.Need-returns-15
-unfolding shapeOf
-returns-15 c = shaped _ 46 (c .before .match .keys15) (c .two-fields6 .ensures)
-
-returns-16 : tie.Need-returns-16
-unfolding shapeOf
-returns-16 c = shaped _ 47 (omega (arith, past 32 15 _ (c .before .before .pre .0) (c .before .match .rest))) (c .one-field10 .ensures)
+returns-7 c = shaped _ 38 (omega (arith, past 32 6 _ (c .before .before .pre .0) (c .before .match .rest))) (c .one-field4 .ensures)
 
 pub expression-shape-spec : {M : Type 1} → statement M
 expression-shape-spec =
@@ -129,28 +66,10 @@ expression-shape-spec =
     one-field-requires-2
     one-field-requires-3
     one-field-requires-4
-    one-field-requires-5
-    one-field-requires-6
-    two-fields-requires-4
-    one-field-requires-7
-    one-field-requires-8
-    one-field-requires-9
-    two-fields-requires-5
-    two-fields-requires-6
-    one-field-requires-10
     returns
     returns-2
     returns-3
     returns-4
     returns-5
     returns-6
-    returns-7
-    returns-8
-    returns-9
-    returns-10
-    returns-11
-    returns-12
-    returns-13
-    returns-14
-    returns-15
-    returns-16)
+    returns-7)

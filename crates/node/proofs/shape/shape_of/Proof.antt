@@ -37,6 +37,9 @@ type-shape-requires c κs = search needs
 expression-shape-requires : tie.Need-expression-shape-requires
 expression-shape-requires c κs = search needs
 
+operator-shape-requires : tie.Need-operator-shape-requires
+operator-shape-requires c κs = search needs
+
 statement-shape-requires : tie.Need-statement-shape-requires
 statement-shape-requires c κs = search needs
 
@@ -91,7 +94,10 @@ returns-12 : tie.Need-returns-12
 returns-12 c = search needs
 
 returns-13 : tie.Need-returns-13
-returns-13 c =
+returns-13 c = search needs
+
+returns-14 : tie.Need-returns-14
+returns-14 c =
     let r = c .before .before .match .rest in
     ⊎-elim
     (λ w. below-16 _ (c .no-field6 .ensures) (r .0 .0 .0 .0 .0) (omega arith))
@@ -118,6 +124,7 @@ shape-of-spec =
     one-field-requires-3
     type-shape-requires
     expression-shape-requires
+    operator-shape-requires
     statement-shape-requires
     item-shape-requires
     no-field-requires-6
@@ -133,4 +140,5 @@ shape-of-spec =
     returns-10
     returns-11
     returns-12
-    returns-13)
+    returns-13
+    returns-14)
