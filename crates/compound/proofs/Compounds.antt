@@ -6,11 +6,11 @@ use mathlib.Core.List.{List, [], _++_, map, append-nil, List·Permᴰ, Permᴰ·
 use native.Mathlib.Omega.{arith}
 use lib.ListN.{length}
 use Rattle.types.specs.Ty.{Ty, member, parts}
-use Rattle.node.specs.Shape.{aCompound}
+use Rattle.shape.specs.Shape.{aCompound}
+use Rattle.shape.specs.declared.Holds.{Holds}
+use Rattle.shape.specs.declared.Holds.the-variants.{Expressions, CompoundFields}
 use Rattle.node.specs.Layout.{kindAt, stopAt}
 use Rattle.node.specs.Fine.{FineRecord, FineList}
-use Rattle.node.specs.declared.shape.Holds.{Holds}
-use Rattle.node.specs.declared.shape.Holds.the-variants.{Expressions, CompoundFields}
 use Rattle.node.specs.Tree.{Compound, CompoundField, arrayCompound, structCompound}
 use Rattle.node.specs.Record.{locationAt, expressionsAt, compoundAt, compoundFieldsAt}
 use Rattle.node.specs.declared.names.BuiltIns.{BuiltIns}

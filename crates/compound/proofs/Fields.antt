@@ -8,13 +8,13 @@ use native.Mathlib.Omega.{arith}
 use lib.ListN.{length}
 use Rattle.types.specs.Table.{IsType}
 use Rattle.types.proofs.Grow.{extends-type}
+use Rattle.shape.specs.Shape.{anExpression}
+use Rattle.shape.specs.declared.Holds.the-variants.{CompoundFields}
 use Rattle.node.specs.Bytes.{wordAt}
-use Rattle.node.specs.Shape.{anExpression}
 use Rattle.node.specs.Layout.{maxBytes, stopAt}
 use Rattle.node.specs.Fine.{FineRecord, FineList}
 use Rattle.node.specs.Tree.{CompoundField}
 use Rattle.node.specs.Record.{expressionAt, compoundFieldsAt}
-use Rattle.node.specs.declared.shape.Holds.the-variants.{CompoundFields}
 use Rattle.node.specs.declared.names.BuiltIns.{BuiltIns}
 use Rattle.node.proofs.ExpressionTrees.{expression-room, ExpressionRoom}
 use Rattle.node.proofs.Compounds.{compoundFieldAt, CompoundFieldParts, compound-fields-none, compound-field-parts}

@@ -8,13 +8,13 @@ use lib.ListN.{length}
 use lib.Dec.{eqb, leb}
 use borrow.Author.Tests.{eqb-true, eqb-false, leb-true}
 use Rattle.types.specs.Ty.{stringName}
+use Rattle.shape.specs.Shape.{aType, pick}
+use Rattle.shape.specs.declared.Holds.the-variants.{Fields}
+use Rattle.shape.proofs.ShapeLaws.{and-both}
 use Rattle.node.specs.Bytes.{Read, wordAt}
-use Rattle.node.specs.Shape.{aType, pick}
 use Rattle.node.specs.Names.{stands, chain, namesEnd, namePlaces, nameCount}
 use Rattle.node.specs.Layout.{maxBytes, kindAt, stopAt}
 use Rattle.node.specs.Fine.{FineRecord, FineList}
-use Rattle.node.specs.declared.shape.Holds.the-variants.{Fields}
-use Rattle.node.proofs.ShapeLaws.{and-both}
 use Rattle.node.proofs.Open.{opened}
 use Rattle.node.proofs.TypeTrees.{name-parts, void-parts, pointer-parts, array-parts, struct-parts, type-kinds, field-parts}
 use Rattle.state.specs.declared.State.{State}

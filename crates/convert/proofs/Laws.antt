@@ -14,13 +14,13 @@ use Rattle.types.specs.declared.Row.the-variants.{Pointer, Array, Struct, Field
 use Rattle.types.proofs.Fixed.{fixed-is}
 use Rattle.types.proofs.Grow.{extends-type}
 use Rattle.types.proofs.Laws.{unfolded-zero}
+use Rattle.shape.specs.Shape.{aType}
+use Rattle.shape.specs.declared.Holds.the-variants.{Fields}
 use Rattle.node.specs.Bytes.{Read, wordAt}
 use Rattle.node.specs.Tree.{TypeNode, nameType, voidType, pointerType, arrayType, structType, fieldThen}
-use Rattle.node.specs.Shape.{aType}
 use Rattle.node.specs.Layout.{kindAt, stopAt}
 use Rattle.node.specs.Record.{locationAt, typeAt, fieldsAt}
 use Rattle.node.specs.Fine.{FineRecord, FineList}
-use Rattle.node.specs.declared.shape.Holds.the-variants.{Fields}
 use Rattle.node.specs.declared.names.BuiltIns.{BuiltIns}
 use Rattle.node.proofs.TypeTrees.{name-parts, void-parts, pointer-parts, array-parts, struct-parts, fields-none, field-parts}
 use Rattle.meaning.specs.TypeError.{TypeError}

@@ -12,15 +12,15 @@ use Rattle.types.specs.Table.{unfolded, Table}
 use Rattle.types.specs.Post.{typeOf, PartsOk}
 use Rattle.types.specs.declared.Row.the-variants.{Function}
 use Rattle.types.proofs.Grow.{extends-type}
+use Rattle.shape.specs.Shape.{aType, anItem}
+use Rattle.shape.specs.declared.Holds.{Holds}
+use Rattle.shape.specs.declared.Holds.the-variants.{Parameters, InitialValue as Value}
 use Rattle.node.specs.Bytes.{Read, wordAt}
 use Rattle.node.specs.Tree.{Location, TypeNode, Parameter, Statement, InitialValue, Item, functionDefinition, globalDeclaration}
-use Rattle.node.specs.Shape.{aType, anItem}
 use Rattle.node.specs.Names.{nameCount}
 use Rattle.node.specs.Layout.{kindAt, stopAt}
 use Rattle.node.specs.Record.{locationAt, typeAt, parametersAt, bodyAt, recordsAt, toInitialValue, itemTreeAt}
 use Rattle.node.specs.Fine.{FineRecord, FineList}
-use Rattle.node.specs.declared.shape.Holds.{Holds}
-use Rattle.node.specs.declared.shape.Holds.the-variants.{Parameters, InitialValue as Value}
 use Rattle.node.specs.declared.names.BuiltIns.{BuiltIns}
 use Rattle.node.proofs.Open.{opened}
 use Rattle.node.proofs.ItemTrees.{TypeThen, item-function, item-global}

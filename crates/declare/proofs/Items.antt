@@ -8,9 +8,9 @@ use native.Mathlib.Omega.{arith}
 use lib.Dec.{eqb}
 use lib.ListN.{length}
 use Rattle.types.specs.Ty.{Ty, member, parts}
+use Rattle.shape.specs.Shape.{aType, anItem}
 use Rattle.node.specs.Bytes.{Read, halfAt, wordAt}
 use Rattle.node.specs.Tree.{Location, TypeNode, Item, typeAlias, otherItem}
-use Rattle.node.specs.Shape.{aType, anItem}
 use Rattle.node.specs.Layout.{kindAt, stopAt}
 use Rattle.node.specs.Record.{locationAt, typeAt, isDistinct, isInternal, itemTreeAt}
 use Rattle.node.specs.Fine.{FineRecord}

@@ -6,14 +6,14 @@ use mathlib.Core.List.{List, [], _∷_}
 use lib.ListN.{length}
 use Rattle.types.specs.Ty.{Ty, argumentKind}
 use Rattle.types.specs.Table.{IsCell}
+use Rattle.shape.specs.Shape.{aType}
+use Rattle.shape.specs.declared.Holds.the-variants.{Parameters}
 use Rattle.node.specs.Bytes.{wordAt}
-use Rattle.node.specs.Shape.{aType}
 use Rattle.node.specs.Names.{nameCount}
 use Rattle.node.specs.Layout.{maxBytes, stopAt}
 use Rattle.node.specs.Tree.{TypeNode, Parameter, Item}
 use Rattle.node.specs.Record.{locationAt, typeAt, parametersAt}
 use Rattle.node.specs.Fine.{FineRecord, FineList}
-use Rattle.node.specs.declared.shape.Holds.the-variants.{Parameters}
 use Rattle.node.specs.declared.names.BuiltIns.{BuiltIns}
 use Rattle.meaning.specs.Context.{isSome, Entry, Context}
 use Rattle.meaning.specs.Module.{argumentCells, internalErrors}

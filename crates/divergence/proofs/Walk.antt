@@ -8,14 +8,14 @@ use lib.ListN.{length}
 use lib.Dec.{eqb}
 use native.Mathlib.Omega.{arith}
 use borrow.Author.Tests.{eqb-true, eqb-false, ne-eqb}
+use Rattle.shape.specs.Shape.{aStatement, anExpression, dueIn}
+use Rattle.shape.specs.declared.Holds.the-variants.{Statements}
+use Rattle.shape.proofs.ShapeLaws.{statement-kind as statement-range}
 use Rattle.node.specs.Bytes.{halfAt, wordAt}
-use Rattle.node.specs.Shape.{aStatement, anExpression, dueIn}
 use Rattle.node.specs.Layout.{kindAt, stopAt, maxBytes}
 use Rattle.node.specs.Fine.{FineRecord, FineList}
 use Rattle.node.specs.Record.{statementAt, statementsAt}
 use Rattle.node.specs.Tree.{Statement, block, expression, variableDeclaration, assignment, compoundAssignment, return, loop, while, break, «if», ifElse, inlineAssembly, noStatements, statementThen}
-use Rattle.node.specs.declared.shape.Holds.the-variants.{Statements}
-use Rattle.node.proofs.ShapeLaws.{statement-kind as statement-range}
 use Rattle.node.proofs.Open.{opened, SplitOne, split-may}
 use Rattle.node.proofs.Decode.{fine-in, fine-wide}
 use Rattle.meaning.specs.Divergence.{findBreak, doAllPathsDiverge}

@@ -3,10 +3,10 @@ use node::bytes::half;
 use node::bytes::length_at;
 ghost use mathlib.Core.Path.{_≡_};
 ghost use lib.ListN.{length};
-ghost use Rattle.node.specs.Shape.{aStatement};
+ghost use Rattle.shape.specs.Shape.{aStatement};
+ghost use Rattle.shape.specs.declared.Holds.the-variants.{Statements};
 ghost use Rattle.node.specs.Fine.{FineRecord, FineList};
 ghost use Rattle.node.specs.Record.{statementAt, statementsAt};
-ghost use Rattle.node.specs.declared.shape.Holds.the-variants.{Statements};
 ghost use Rattle.meaning.specs.Divergence.{findBreak, doAllPathsDiverge};
 ghost use Rattle.divergence.specs.InnerStatements.{InnerOf};
 

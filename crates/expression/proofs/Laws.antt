@@ -12,8 +12,8 @@ use Rattle.types.proofs.Fixed.{fixed-is}
 use Rattle.types.proofs.Grow.{extends-type}
 use Rattle.relations.specs.Relations.{isCastableTo}
 use Rattle.relations.specs.Entry.{OneType, TwoTypes}
+use Rattle.shape.specs.Shape.{aType, anExpression}
 use Rattle.node.specs.Bytes.{wordAt}
-use Rattle.node.specs.Shape.{aType, anExpression}
 use Rattle.node.specs.Layout.{kindAt, stopAt}
 use Rattle.node.specs.Fine.{FineRecord}
 use Rattle.node.specs.Tree.{Location, TypeNode, Expression, identifier, integer, boolean, stringLiteral, cast, sizeof}

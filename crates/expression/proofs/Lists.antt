@@ -9,13 +9,13 @@ use lib.ListN.{length}
 use Rattle.types.specs.Ty.{functionKind}
 use Rattle.types.specs.Table.{IsType}
 use Rattle.types.proofs.Grow.{extends-type}
+use Rattle.shape.specs.Shape.{anExpression}
+use Rattle.shape.specs.declared.Holds.the-variants.{Expressions}
 use Rattle.node.specs.Bytes.{wordAt}
-use Rattle.node.specs.Shape.{anExpression}
 use Rattle.node.specs.Layout.{maxBytes, kindAt, stopAt}
 use Rattle.node.specs.Fine.{FineRecord, FineList}
 use Rattle.node.specs.Tree.{Expression, call}
 use Rattle.node.specs.Record.{locationAt, expressionAt, expressionsAt}
-use Rattle.node.specs.declared.shape.Holds.the-variants.{Expressions}
 use Rattle.node.specs.declared.names.BuiltIns.{BuiltIns}
 use Rattle.node.proofs.ExpressionTrees.{expression-room, expressions-none, ExpressionRoom, ListOperands, list-operands, call-parts}
 use Rattle.meaning.specs.Context.{Context}

@@ -6,11 +6,11 @@ use mathlib.Core.List.{List, [], _++_}
 use native.Mathlib.Omega.{arith}
 use lib.ListN.{length}
 use Rattle.relations.specs.Entry.{OneType, TwoTypes}
+use Rattle.shape.specs.Shape.{dueIn, mayBeEither, anExpression, aCompound}
+use Rattle.shape.specs.declared.Holds.the-variants.{Nothing, InitialValue}
 use Rattle.node.specs.Bytes.{halfAt}
-use Rattle.node.specs.Shape.{dueIn, mayBeEither, anExpression, aCompound}
 use Rattle.node.specs.Layout.{classAt, kindAt, startAt, stopAt}
 use Rattle.node.specs.Fine.{FineRecord, FineList, Opened}
-use Rattle.node.specs.declared.shape.Holds.the-variants.{Nothing, InitialValue}
 use Rattle.node.specs.Tree.{Location, Compound, noValue, compounded}
 use Rattle.node.specs.Tree as tree
 use Rattle.node.specs.Record.{locationAt, expressionAt, compoundAt}

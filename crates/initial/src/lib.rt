@@ -2,8 +2,8 @@
 use node::bytes::half;
 use node::names::BuiltIns;
 use state::State;
+ghost use Rattle.shape.specs.declared.Holds.the-variants.{InitialValue};
 ghost use Rattle.node.specs.Fine.{FineList};
-ghost use Rattle.node.specs.declared.shape.Holds.the-variants.{InitialValue};
 ghost use Rattle.relations.specs.Entry.{OneType};
 ghost use Rattle.state.specs.Represents.{lent};
 ghost use Rattle.convert.specs.Post.{Ready};

@@ -9,8 +9,8 @@ use lib.Dec.{eqb}
 use lib.ListN.{length}
 use borrow.Author.Tests.{eq-eqb, ne-eqb}
 use Rattle.types.specs.Ty.{Ty, void, same}
+use Rattle.shape.specs.Shape.{aStatement}
 use Rattle.node.specs.Bytes.{Read, wordAt}
-use Rattle.node.specs.Shape.{aStatement}
 use Rattle.node.specs.Layout.{stopAt}
 use Rattle.node.specs.Fine.{FineRecord}
 use Rattle.node.specs.Tree.{Statement}

@@ -8,13 +8,13 @@ use native.Mathlib.Omega.{arith}
 use lib.ListN.{length}
 use Rattle.types.specs.Ty.{Ty, member, parts}
 use Rattle.types.proofs.Parts.{member-append}
+use Rattle.shape.specs.Shape.{aType, anItem}
+use Rattle.shape.specs.declared.Holds.the-variants.{Parameters}
 use Rattle.node.specs.Bytes.{wordAt}
-use Rattle.node.specs.Shape.{aType, anItem}
 use Rattle.node.specs.Layout.{maxBytes, kindAt, stopAt}
 use Rattle.node.specs.Fine.{FineRecord, FineList}
 use Rattle.node.specs.Tree.{Location, TypeNode, Parameter, Statement, Item, functionDefinition}
 use Rattle.node.specs.Record.{locationAt, typeAt, parametersAt, bodyAt, itemTreeAt}
-use Rattle.node.specs.declared.shape.Holds.the-variants.{Parameters}
 use Rattle.node.specs.declared.names.BuiltIns.{BuiltIns}
 use Rattle.node.proofs.Open.{opened}
 use Rattle.node.proofs.TypeTrees.{TypeRoom}

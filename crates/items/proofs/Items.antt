@@ -5,14 +5,14 @@ use mathlib.Core.Bool.{true, false}
 use mathlib.Core.List.{List, [], _++_}
 use native.Mathlib.Omega.{arith}
 use lib.ListN.{length}
+use Rattle.shape.specs.Shape.{dueIn, aType, anItem}
+use Rattle.shape.specs.declared.Holds.the-variants as holds
+use Rattle.shape.specs.declared.Holds.the-variants.{Items}
 use Rattle.node.specs.Bytes.{Read, halfAt, wordAt}
-use Rattle.node.specs.Shape.{dueIn, aType, anItem}
 use Rattle.node.specs.Layout.{maxBytes, kindAt, stopAt}
 use Rattle.node.specs.Fine.{FineRecord, FineList}
 use Rattle.node.specs.Tree.{Item, globalDeclaration, otherItem}
 use Rattle.node.specs.Record.{locationAt, typeAt, itemTreeAt}
-use Rattle.node.specs.declared.shape.Holds.the-variants as holds
-use Rattle.node.specs.declared.shape.Holds.the-variants.{Items}
 use Rattle.node.specs.declared.names.BuiltIns.{BuiltIns}
 use Rattle.node.proofs.Open.{opened, split-may}
 use Rattle.node.proofs.Decode.{fine-wide}

@@ -26,12 +26,12 @@ pub record Clearing (work : List ℕ) (i : ℕ) (work′ : List ℕ) : Type 0 wh
   pub kept : (j : ℕ) → j % 4 < 2 → getD work′ j 0 ≡ getD work j 0
   pub zeros : (j : ℕ) → j < i → 2 ≤ j % 4 → getD work′ j 0 ≡ 0
 
-pub clearing-start : (work : List ℕ) → Clearing work 0 work
+pub clearing-start : (work : List ℕ) → Clearing work 2 work
 clearing-start work = record { wide = refl; kept = λ j h. refl; zeros = λ j h l. absurd (omega arith) }
 
 module _ {work work₁ : List ℕ} {i : ℕ} (c : Clearing work i work₁) where
   -- The word of a local or an argument
-  pub clearing-set : i < length work₁ → 2 ≤ i % 4 → {work′ : List ℕ} → work′ ≡ set work₁ i 0 → Clearing work (i + 1) work′
+  clearing-set : i < length work₁ → 2 ≤ i % 4 → {work′ : List ℕ} → work′ ≡ set work₁ i 0 → Clearing work (i + 1) work′
   clearing-set l h e =
       subst (Clearing work (i + 1)) (sym e)
       (record {
@@ -45,12 +45,20 @@ module _ {work work₁ : List ℕ} {i : ℕ} (c : Clearing work i work₁) where
       zero j b k false q = let ne = eqb-false j i q in getD-set-other work₁ i j 0 0 ne ∙ c .zeros j (omega arith) k
 
   -- another word
-  pub clearing-skip : i % 4 < 2 → {work′ : List ℕ} → work′ ≡ work₁ → Clearing work (i + 1) work′
-  clearing-skip h e = subst (Clearing work (i + 1)) (sym e) (record { wide = c .wide; kept = c .kept; zeros = λ j b k. zero j b k (eqb j i) refl })
+  clearing-skip : i % 4 < 2 → Clearing work (i + 1) work₁
+  clearing-skip h = record { wide = c .wide; kept = c .kept; zeros = λ j b k. zero j b k (eqb j i) refl }
     where
       zero : (j : ℕ) → j < i + 1 → 2 ≤ j % 4 → (b : Bool) → eqb j i ≡ b → getD work₁ j 0 ≡ 0
       zero j b k true q = let z : j % 4 ≡ i % 4 = ap (λ (x : ℕ). x % 4) (eqb-true j i q) in absurd (omega arith)
       zero j b k false q = let ne = eqb-false j i q in c .zeros j (omega arith) k
+
+  -- and all that is past the end
+  clearing-past : length work₁ ≤ i → (k : ℕ) → Clearing work k work₁
+  clearing-past l k = record { wide = c .wide; kept = c .kept; zeros = λ j b h. zero j h (ltb j i) refl }
+    where
+      zero : (j : ℕ) → 2 ≤ j % 4 → (b : Bool) → ltb j i ≡ b → getD work₁ j 0 ≡ 0
+      zero j h true q = c .zeros j (ltb-true j i q) h
+      zero j h false q = let z : i ≤ j = ltb-false j i q in List·getD-eq-default work₁ 0 (omega arith)
 
   pub clearing-done : length work₁ ≤ i → Cleared work work₁
   clearing-done l = record { wide = c .wide; kept = c .kept; zeros = λ j k. zero j k (ltb j i) refl }
@@ -58,6 +66,16 @@ module _ {work work₁ : List ℕ} {i : ℕ} (c : Clearing work i work₁) where
       zero : (j : ℕ) → 2 ≤ j % 4 → (b : Bool) → ltb j i ≡ b → getD work₁ j 0 ≡ 0
       zero j k true q = c .zeros j (ltb-true j i q) k
       zero j k false q = let z : i ≤ j = ltb-false j i q in List·getD-eq-default work₁ 0 (omega arith)
+
+-- The words of a name's local and argument, then those of the next name's global and alias
+module _ {work work₁ : List ℕ} {i : ℕ} (c : Clearing work i work₁) (h : i % 4 ≡ 2) (l : i < length work₁) where
+  pub clearing-pair : i + 1 < length (set work₁ i 0) → {work′ : List ℕ} → work′ ≡ set (set work₁ i 0) (i + 1) 0 → Clearing work (i + 4) work′
+  clearing-pair p {work′} q =
+      let two = clearing-set (clearing-set c l (omega arith) refl) p (omega arith) q in
+      subst (λ (k : ℕ). Clearing work k work′) (omega arith) (clearing-skip (clearing-skip two (omega arith)) (omega arith))
+
+  pub clearing-last : length (set work₁ i 0) ≤ i + 1 → {work′ : List ℕ} → work′ ≡ set work₁ i 0 → Clearing work (i + 4) work′
+  clearing-last p q = subst (Clearing work (i + 4)) (sym q) (clearing-past (clearing-set c l (omega arith) refl) p (i + 4))
 
 -- What is known of words that were cleared
 module _ {work work′ o e w : List ℕ} {st : State} (c : Cleared work work′) where

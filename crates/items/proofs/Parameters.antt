@@ -7,14 +7,14 @@ use mathlib.Core.Logic.{inr}
 use native.Mathlib.Omega.{arith}
 use lib.ListN.{length, set, length-set}
 use Rattle.types.specs.Ty.{void}
+use Rattle.shape.specs.Shape.{aStatement}
+use Rattle.shape.specs.declared.Holds.the-variants.{Parameters}
 use Rattle.node.specs.Bytes.{Read, halfAt, wordAt}
 use Rattle.node.specs.Names.{nameCount}
-use Rattle.node.specs.Shape.{aStatement}
 use Rattle.node.specs.Layout.{kindAt, stopAt}
 use Rattle.node.specs.Fine.{FineList}
 use Rattle.node.specs.Tree.{Parameter}
 use Rattle.node.specs.Record.{typeAt, parametersAt, bodyAt}
-use Rattle.node.specs.declared.shape.Holds.the-variants.{Parameters}
 use Rattle.node.specs.declared.names.BuiltIns.{BuiltIns}
 use Rattle.node.proofs.Open.{opened}
 use Rattle.node.proofs.ItemTrees.{ParameterAt, parameters-none, parameter-at, body-at}

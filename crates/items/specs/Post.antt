@@ -6,12 +6,12 @@ use mathlib.Core.List.{List}
 use mathlib.Core.Option.{Option}
 use lib.ListN.{length, getD}
 use Rattle.types.specs.Ty.{void}
+use Rattle.shape.specs.declared.Holds.the-variants.{Parameters}
 use Rattle.node.specs.Bytes.{wordAt}
 use Rattle.node.specs.Layout.{kindAt, stopAt}
 use Rattle.node.specs.Fine.{FineList}
 use Rattle.node.specs.Tree.{Statement, Parameter, Item}
 use Rattle.node.specs.Record.{locationAt, parametersAt, bodyAt, itemTreeAt}
-use Rattle.node.specs.declared.shape.Holds.the-variants.{Parameters}
 use Rattle.node.specs.declared.names.BuiltIns.{BuiltIns}
 use Rattle.meaning.specs.Context.{noTypes, ModuleContext, LocalContext, Context, context, blank, each}
 use Rattle.meaning.specs.Module.{parameterErrors, parameterSlots, argumentMap, bodyErrors, bodySlots, itemErrors, itemSlots}

@@ -11,11 +11,11 @@ ghost use mathlib.Core.Path.{_≡_};
 ghost use mathlib.Core.Bool.{_||_};
 ghost use lib.Dec.{eqb};
 ghost use lib.ListN.{length};
-ghost use Rattle.node.specs.Shape.{aStatement, anItem};
+ghost use Rattle.shape.specs.Shape.{aStatement, anItem};
+ghost use Rattle.shape.specs.declared.Holds.the-variants.{Parameters, Items};
 ghost use Rattle.node.specs.Layout.{kindAt};
 ghost use Rattle.node.specs.Fine.{FineRecord, FineList};
 ghost use Rattle.node.specs.Record.{statementAt, bodyAt};
-ghost use Rattle.node.specs.declared.shape.Holds.the-variants.{Parameters, Items};
 ghost use Rattle.relations.specs.Entry.{OneType};
 ghost use Rattle.meaning.specs.Divergence.{doAllPathsDiverge};
 ghost use Rattle.state.specs.Represents.{lent};
@@ -145,16 +145,17 @@ fn type_check_body(
     rules::report_unless(holds, s, at, PATHS_WITHOUT_RETURN, name, 0, 0, errors, next)
 }
 
-// Clears the words of locals and arguments of every name.
+// Clears the words of locals and arguments of every name, which stand side by side.
 fn clear_locals(work: &mut [u32])
     ensures { λ _. ⌜ Cleared (now (work .entry)) (now (work .exit)) ⌝ }
 {
-    let mut i: usize = 0;
+    let mut i = state::LOCAL;
     while i < work.len() {
-        if state::LOCAL <= i % state::WORK_WIDTH {
-            work[i] = 0;
+        work[i] = 0;
+        if i + 1 < work.len() {
+            work[i + 1] = 0;
         }
-        i += 1;
+        i += state::WORK_WIDTH;
     }
 }
 

@@ -1,8 +1,8 @@
 -- The worked examples, by computation.
 use mathlib.Core.Path.{refl}
 use Rattle.types.specs.Ty.{same, member, distinctCount, parts}
+use Rattle.shape.specs.Shape.{shapeOf, dueIn, isDone, mayStand, stateAfter, allowed}
 use Rattle.node.specs.Bytes.{halfAt, wordAt}
-use Rattle.node.specs.Shape.{shapeOf, dueIn, isDone, mayStand, stateAfter, allowed}
 use Rattle.node.specs.Names.{stands, chain, namesEnd, namePlaces, nameBytes, namesOf, nameCount, sameBytes, isAmong, repeatIn, repeatedName, nameRefusal, itemPlaces, itemBytes, itemsOf}
 use Rattle.node.specs.Layout.{isBad, headAt, listAt, recordAt, layoutOf, layoutRefusal}
 use Rattle.node.specs.Record.{recordsWith, recordsAt, toType, itemTree}

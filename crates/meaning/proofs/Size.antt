@@ -8,16 +8,16 @@ use native.Mathlib.Omega.{arith}
 use lib.Dec.{eqb}
 use lib.ListN.{length, drop, length-take, length-drop}
 use borrow.Author.Tests.{lt-leb, eqb-true, eqb-false}
+use Rattle.shape.specs.Shape.{pick, aNames, aName, anItem, shapeOf, mayBe, dueIn}
+use Rattle.shape.specs.declared.Holds.{Holds}
+use Rattle.shape.specs.declared.Holds.the-variants.{Items, Names}
+use Rattle.shape.proofs.ShapeLaws.{kind-range}
 use Rattle.node.specs.Bytes.{wordAt}
-use Rattle.node.specs.Shape.{pick, aNames, aName, anItem, shapeOf, mayBe, dueIn}
 use Rattle.node.specs.Names.{stands, chain, namesEnd, namePlaces, nameBytes, namesOf, itemPlaces, itemBytes, itemsOf, isAmong, repeatIn, repeatedName}
 use Rattle.node.specs.Layout.{kindAt, stopAt, layoutOf}
 use Rattle.node.specs.Fine.{FineList, Opened}
 use Rattle.node.specs.declared.names.Repeated.the-variants.{At}
-use Rattle.node.specs.declared.shape.Holds.{Holds}
-use Rattle.node.specs.declared.shape.Holds.the-variants.{Items, Names}
 use Rattle.node.specs.declared.layout.Layout.the-variants.{Good}
-use Rattle.node.proofs.ShapeLaws.{kind-range}
 use Rattle.node.proofs.Open.{opened, opened-kind, split-may, fine-stands, ModuleParts, module-parts}
 
 -- The bytes of records

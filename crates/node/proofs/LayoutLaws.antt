@@ -9,20 +9,20 @@ use lib.ListN.{length}
 use lib.Dec.{leb}
 use native.Mathlib.Omega.{arith}
 use borrow.Author.Tests.{lt-leb, le-leb, leb-true, eq-eqb, ne-eqb, lt-ltb, le-ltb, not-true, not-false}
+use Rattle.shape.specs.Shape.{pick, shapeOf, dueIn, isDone, mayStand, stateAfter}
+use Rattle.shape.specs.declared.Holds.{Holds}
+use Rattle.shape.specs.declared.Holds.the-variants.{OneModule}
+use Rattle.shape.specs.declared.Shape.{Shape}
+use Rattle.shape.specs.declared.Due.{Due}
+use Rattle.shape.proofs.ShapeLaws.{and-both}
 use Rattle.node.specs.Bytes.{halfAt, wordAt}
-use Rattle.node.specs.Shape.{pick, shapeOf, dueIn, isDone, mayStand, stateAfter}
 use Rattle.node.specs.Names.{nameCount}
 use Rattle.node.specs.Layout.{maxBytes, maxDepth, shapeAt, startAt, stopAt, isWhole, isBad, headAt, andThen, afterHead, listStep, listAt, recordAt, layoutOf, Walked}
-use Rattle.node.specs.declared.shape.Holds.{Holds}
-use Rattle.node.specs.declared.shape.Holds.the-variants.{OneModule}
-use Rattle.node.specs.declared.shape.Shape.{Shape}
-use Rattle.node.specs.declared.shape.Due.{Due}
 use Rattle.node.specs.declared.layout.Layout.{Layout}
 use Rattle.node.proofs.layout.Layout.{the-type}
 use Rattle.node.specs.declared.layout.Layout.the-variants.{Good, TooLong, Fault, TooDeep}
 use Rattle.node.specs.declared.layout.Head.{Head}
 use Rattle.node.specs.declared.layout.Head.the-variants.{Body, Wrong}
-use Rattle.node.proofs.ShapeLaws.{and-both}
 
 -- The head of a record, by the tests of its code
 module _ (n : ℕ) (s : List ℕ) (at end : ℕ) (due : Due) where

@@ -1,4 +1,3 @@
-pub mod ShapeLaws
 pub mod NameLaws
 pub mod LayoutLaws
 pub mod Open

@@ -6,13 +6,13 @@ use mathlib.Core.List.{List, [], _∷_, _++_, map, map-append, append-nil, appen
 use lib.ListN.{length, getD, take, drop, set, length-append, length-map, length-set, drop-of-length-le}
 use lib.Seq.{drop-cons, getD-set-same, getD-set-other}
 use mathlib.Core.Logic.{_⊎_, inl, inr}
-use Rattle.node.proofs.ShapeLaws.{and-both}
+use Rattle.shape.proofs.ShapeLaws.{and-both}
 use native.Mathlib.Numerals.{add-one}
 use lib.Dec.{eqb}
 use native.Mathlib.Omega.{arith}
 use borrow.Author.Tests.{lt-leb, le-leb, eq-eqb, ne-eqb, eqb-true, eqb-false, not-true}
+use Rattle.shape.specs.Shape.{pick}
 use Rattle.node.specs.Bytes.{wordAt}
-use Rattle.node.specs.Shape.{pick}
 use Rattle.node.specs.Names.{stands, chain, namesEnd, NamesEnd, namePlaces, nameBytes, namesOf, nameCount, sameBytes, markCount, hashFrom, Hashed, isRepeated, isAmong, indexOf, numberOf, repeatIn, repeatedName, Following}
 use Rattle.node.specs.declared.names.Repeated.the-variants.{Nowhere, At}
 

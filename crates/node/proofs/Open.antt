@@ -8,23 +8,23 @@ use lib.ListN.{length}
 use lib.Dec.{leb, ltb, eqb}
 use native.Mathlib.Omega.{arith}
 use borrow.Author.Tests.{ltb-true, ltb-false, leb-true, le-leb, eqb-true, eq-eqb, ne-eqb, not-false}
+use Rattle.shape.specs.Shape.{pick, shapeOf, dueIn, isDone, mayStand, stateAfter, mustBe, mayBe, mayBeEither, nothingDue, isBetween, allowed, aModule, aNames}
+use Rattle.shape.specs.declared.Rule.{Rule}
+use Rattle.shape.specs.declared.Rule.the-variants.{Slot, Name, Base, Operator, Comparison}
+use Rattle.shape.specs.declared.Holds.{Holds}
+use Rattle.shape.specs.declared.Holds.the-variants.{Nothing, OneModule, NamesThenItems, Items}
+use Rattle.shape.specs.declared.Shape.{Shape}
+use Rattle.shape.specs.declared.Due.{Due}
+use Rattle.shape.proofs.ShapeLaws.{and-both, module-kind}
 use Rattle.node.specs.Bytes.{halfAt, wordAt}
-use Rattle.node.specs.Shape.{pick, shapeOf, dueIn, isDone, mayStand, stateAfter, mustBe, mayBe, mayBeEither, nothingDue, isBetween, allowed, aModule, aNames}
 use Rattle.node.specs.Names.{nameCount, namesEnd, itemPlaces, chain, stands}
 use Rattle.node.specs.Layout.{maxBytes, maxDepth, kindAt, shapeAt, classAt, startAt, stopAt, isBad, headAt, answerIf, andThen, afterHead, listAt, recordAt, layoutOf}
 use Rattle.node.specs.Fine.{FineRecord, FineList, Opened}
-use Rattle.node.specs.declared.shape.Rule.{Rule}
-use Rattle.node.specs.declared.shape.Rule.the-variants.{Slot, Name, Base, Operator, Comparison}
-use Rattle.node.specs.declared.shape.Holds.{Holds}
-use Rattle.node.specs.declared.shape.Holds.the-variants.{Nothing, OneModule, NamesThenItems, Items}
-use Rattle.node.specs.declared.shape.Shape.{Shape}
-use Rattle.node.specs.declared.shape.Due.{Due}
 use Rattle.node.specs.declared.layout.Layout.{Layout}
 use Rattle.node.specs.declared.layout.Layout.the-variants.{Good, TooLong, Fault, TooDeep}
 use Rattle.node.specs.declared.layout.Head.{Head}
 use Rattle.node.specs.declared.layout.Head.the-variants.{Body, Wrong}
 use Rattle.node.proofs.LayoutLaws.{known, head-good, record-step}
-use Rattle.node.proofs.ShapeLaws.{and-both, module-kind}
 
 fault-good : {A : Type 0} {p : ℕ} → Fault p ≡ Good → A
 fault-good e = absurd (let z : _≡_ {A = ℕ} 0 1 = cc in omega arith)

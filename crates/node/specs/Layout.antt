@@ -6,14 +6,14 @@ use mathlib.Core.List.{List}
 use mathlib.Core.Option.{Option, none, some}
 use lib.ListN.{length}
 use lib.Dec.{leb, ltb, eqb}
+use Rattle.shape.specs.Shape.{pick, shapeOf, dueIn, isDone, mayStand, stateAfter, allowed, unlisted}
+use Rattle.shape.specs.declared.Rule.{Rule}
+use Rattle.shape.specs.declared.Holds.{Holds}
+use Rattle.shape.specs.declared.Holds.the-variants.{OneModule}
+use Rattle.shape.specs.declared.Shape.{Shape}
+use Rattle.shape.specs.declared.Due.{Due}
 use Rattle.node.specs.Bytes.{halfAt, wordAt}
-use Rattle.node.specs.Shape.{pick, shapeOf, dueIn, isDone, mayStand, stateAfter, allowed, unlisted}
 use Rattle.node.specs.Names.{nameCount}
-use Rattle.node.specs.declared.shape.Rule.{Rule}
-use Rattle.node.specs.declared.shape.Holds.{Holds}
-use Rattle.node.specs.declared.shape.Holds.the-variants.{OneModule}
-use Rattle.node.specs.declared.shape.Shape.{Shape}
-use Rattle.node.specs.declared.shape.Due.{Due}
 use Rattle.node.specs.declared.layout.Layout.{Layout}
 use Rattle.node.specs.declared.layout.Layout.the-variants.{Good, TooLong, Fault, TooDeep}
 use Rattle.node.specs.declared.layout.Head.{Head}

@@ -7,8 +7,8 @@ use mathlib.Core.List.{List, [], _∷_, _++_, map}
 use mathlib.Core.Option.{Option, none, some}
 use lib.ListN.{length, take, drop}
 use lib.Dec.{leb, eqb}
+use Rattle.shape.specs.Shape.{pick}
 use Rattle.node.specs.Bytes.{wordAt}
-use Rattle.node.specs.Shape.{pick}
 use Rattle.node.specs.declared.names.BuiltIns.{BuiltIns}
 use Rattle.node.specs.declared.names.Repeated.{Repeated}
 use Rattle.node.specs.declared.names.Repeated.the-variants.{Nowhere, At}

@@ -6,17 +6,17 @@ use mathlib.Core.List.{List}
 use lib.Dec.{eqb}
 use native.Mathlib.Omega.{arith}
 use borrow.Author.Tests.{eqb-true}
-use Rattle.node.specs.Shape.{pick, shapeOf, dueIn, isDone, mayStand, stateAfter, unlisted, anItem}
+use Rattle.shape.specs.Shape.{pick, shapeOf, dueIn, isDone, mayStand, stateAfter, unlisted, anItem}
+use Rattle.shape.specs.declared.Due.{Due}
+use Rattle.shape.specs.declared.Holds.{Holds}
+use Rattle.shape.specs.declared.Holds.the-variants.{Nothing, FreeBytes, OneModule, NamesThenItems, Items, Names, OneType, Fields, OneExpression, TwoExpressions, CallParts, Expressions, ExpressionThenType, CompoundFields, Statements, Declaration, InitialValue, ExpressionThenCompound, OneCompound, OptionalExpression, OneStatement, ExpressionThenStatement, IfParts, ThenPart, OptionalStatement, FunctionParts, Parameters}
+use Rattle.shape.proofs.ShapeLaws.{and-both}
 use Rattle.node.specs.Names.{nameCount}
 use Rattle.node.specs.Layout.{kindAt, classAt, startAt, stopAt, answerIf, andThen, listAt, recordAt}
 use Rattle.node.specs.Fine.{FineRecord, FineList}
 use Rattle.node.specs.Record.{Records, noRecords, recordThen, goOn, headAt, bytesAt, holdsFreeBytes, recordsAt}
 use Rattle.node.specs.declared.layout.Layout.{Layout}
 use Rattle.node.specs.declared.layout.Layout.the-variants.{Good, Fault}
-use Rattle.node.specs.declared.shape.Due.{Due}
-use Rattle.node.specs.declared.shape.Holds.{Holds}
-use Rattle.node.specs.declared.shape.Holds.the-variants.{Nothing, FreeBytes, OneModule, NamesThenItems, Items, Names, OneType, Fields, OneExpression, TwoExpressions, CallParts, Expressions, ExpressionThenType, CompoundFields, Statements, Declaration, InitialValue, ExpressionThenCompound, OneCompound, OptionalExpression, OneStatement, ExpressionThenStatement, IfParts, ThenPart, OptionalStatement, FunctionParts, Parameters}
-use Rattle.node.proofs.ShapeLaws.{and-both}
 use Rattle.node.proofs.Open.{opened, split}
 use Rattle.node.proofs.Decode.{fine-own, records-cons, records-end}
 

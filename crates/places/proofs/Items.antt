@@ -8,16 +8,16 @@ use lib.Dec.{leb}
 use native.Mathlib.Omega.{arith}
 use borrow.Author.Tests.{leb-true}
 use Rattle.types.specs.Ty.{fixedTypes, parts}
+use Rattle.shape.specs.Shape.{pick, dueIn, anItem}
+use Rattle.shape.specs.declared.Holds.the-variants.{Items}
+use Rattle.shape.proofs.ShapeLaws.{and-both}
 use Rattle.node.specs.Bytes.{wordAt}
-use Rattle.node.specs.Shape.{pick, dueIn, anItem}
 use Rattle.node.specs.Names.{stands, chain, itemPlaces, itemBytes, itemsOf}
 use Rattle.node.specs.Layout.{stopAt, layoutOf}
 use Rattle.node.specs.Fine.{FineRecord, FineList}
 use Rattle.node.specs.Tree.{Item}
 use Rattle.node.specs.Record.{Records, recordsAt, toItem, itemTree}
-use Rattle.node.specs.declared.shape.Holds.the-variants.{Items}
 use Rattle.node.specs.declared.layout.Layout.the-variants.{Good}
-use Rattle.node.proofs.ShapeLaws.{and-both}
 use Rattle.node.proofs.Open.{opened, split-may, module-parts, item-chain}
 use Rattle.node.proofs.Decode.{fine-wide}
 use Rattle.meaning.specs.Context.{TypeMap, ModuleContext, insertAll, each}

@@ -7,15 +7,15 @@ use native.Mathlib.Omega.{arith}
 use lib.ListN.{length}
 use lib.Dec.{eqb}
 use borrow.Author.Tests.{eqb-true, eqb-false}
+use Rattle.shape.specs.Shape.{anItem, pick, dueIn}
+use Rattle.shape.specs.declared.Holds.the-variants.{Items}
 use Rattle.node.specs.Bytes.{wordAt}
 use Rattle.node.specs.Names.{stands, chain, itemPlaces}
 use Rattle.node.specs.Tree.{Item}
-use Rattle.node.specs.Shape.{anItem, pick, dueIn}
 use Rattle.node.specs.Layout.{stopAt, layoutOf}
 use Rattle.node.specs.Record.{toItem, itemTreeAt}
 use Rattle.node.specs.Fine.{FineRecord, FineList}
 use Rattle.node.specs.declared.layout.Layout.the-variants.{Good}
-use Rattle.node.specs.declared.shape.Holds.the-variants.{Items}
 use Rattle.node.proofs.Open.{split-may, opened, fine-stands, module-parts, item-chain}
 use Rattle.node.proofs.Decode.{fine-own, records-cons, records-end}
 use Rattle.state.proofs.Sets.{both}

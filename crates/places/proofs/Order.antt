@@ -8,17 +8,17 @@ use lib.ListN.{length}
 use lib.Dec.{eqb}
 use native.Mathlib.Omega.{arith}
 use borrow.Author.Tests.{eqb-true, eqb-false, ne-eqb, eq-eqb}
-use Rattle.node.specs.Shape.{pick, shapeOf, dueIn, mayStand, stateAfter, aType, aField, anExpression, aCompound, aCompoundField, aStatement, anItem, aParameter}
+use Rattle.shape.specs.Shape.{pick, shapeOf, dueIn, mayStand, stateAfter, aType, aField, anExpression, aCompound, aCompoundField, aStatement, anItem, aParameter}
+use Rattle.shape.specs.declared.Holds.{Holds}
+use Rattle.shape.specs.declared.Holds.the-variants.{Nothing, FreeBytes, OneModule, NamesThenItems, Items, Names, OneType, Fields, OneExpression, TwoExpressions, CallParts, Expressions, ExpressionThenType, CompoundFields, Statements, Declaration, InitialValue, ExpressionThenCompound, OneCompound, OptionalExpression, OneStatement, ExpressionThenStatement, IfParts, ThenPart, OptionalStatement, FunctionParts, Parameters}
+use Rattle.shape.proofs.ShapeLaws.{kind-range, type-kind, expression-kind, compound-kind, statement-kind, item-kind}
 use Rattle.node.specs.Names.{itemBytes}
 use Rattle.node.specs.Layout.{kindAt, classAt, stopAt}
 use Rattle.node.specs.Fine.{FineRecord}
-use Rattle.node.specs.declared.shape.Holds.{Holds}
-use Rattle.node.specs.declared.shape.Holds.the-variants.{Nothing, FreeBytes, OneModule, NamesThenItems, Items, Names, OneType, Fields, OneExpression, TwoExpressions, CallParts, Expressions, ExpressionThenType, CompoundFields, Statements, Declaration, InitialValue, ExpressionThenCompound, OneCompound, OptionalExpression, OneStatement, ExpressionThenStatement, IfParts, ThenPart, OptionalStatement, FunctionParts, Parameters}
 use Rattle.node.specs.Tree.{Location, Expression, Statement}
 use Rattle.node.specs.Record.{Head, Records, noRecords, recordThen, next, hasSlot, holdsFreeBytes, headAt, bytesAt, recordsAt, slotPlaces, itemSlotPlaces}
 use Rattle.node.specs.Record.{typeOf, toType, expressionOf, toExpressions, toExpression, secondExpression, expressionList, laterExpressions, compoundOf, toCompound, toCompoundFields, toInitialValue, toOptional}
 use Rattle.node.specs.Record.{statementOf, toStatements, statementList, firstStatement, laterStatements, ifOf, toParameters, toBody, itemOf, toItem, itemTree}
-use Rattle.node.proofs.ShapeLaws.{kind-range, type-kind, expression-kind, compound-kind, statement-kind, item-kind}
 use Rattle.node.proofs.Open.{either-class}
 use Rattle.node.proofs.Decode.{fine-own, records-end}
 use Rattle.node.proofs.Statements.{next-records}

@@ -8,14 +8,14 @@ use lib.Seq.{getD-take, getD-drop, ext-getD}
 use lib.Dec.{ltb}
 use native.Mathlib.Omega.{arith}
 use borrow.Author.Tests.{ltb-true, le-leb}
+use Rattle.shape.specs.Shape.{dueIn, stateAfter, anItem}
+use Rattle.shape.specs.declared.Holds.{Holds}
 use Rattle.node.specs.Bytes.{byteAt, halfAt, wordAt}
-use Rattle.node.specs.Shape.{dueIn, stateAfter, anItem}
 use Rattle.node.specs.Names.{stands}
 use Rattle.node.specs.Layout.{kindAt, classAt, startAt, stopAt}
 use Rattle.node.specs.Fine.{FineRecord}
 use Rattle.node.specs.Tree.{location}
 use Rattle.node.specs.Record.{Records, noRecords, recordThen, goOn, headAt, bytesAt, fieldCount, holdsFreeBytes, recordWith, recordsWith, recordsAt}
-use Rattle.node.specs.declared.shape.Holds.{Holds}
 use Rattle.node.proofs.Open.{opened}
 use Rattle.node.proofs.Decode.{enough, records-end}
 use Rattle.places.proofs.Decode.{moveHead, moveRecords}

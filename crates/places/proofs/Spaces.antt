@@ -8,17 +8,17 @@ use lib.ListN.{length, getD}
 use lib.Dec.{eqb, leb, ltb}
 use native.Mathlib.Omega.{arith}
 use borrow.Author.Tests.{leb-true, leb-false, ltb-false}
+use Rattle.shape.specs.Shape.{pick, shapes, lookUp, shapeOf, dueIn, stateAfter, anItem}
+use Rattle.shape.specs.declared.Shape.{Shape}
+use Rattle.shape.specs.declared.Holds.{Holds}
+use Rattle.shape.specs.declared.Holds.the-variants.{Items}
+use Rattle.shape.proofs.ShapeLaws.{and-both}
 use Rattle.node.specs.Bytes.{wordAt}
-use Rattle.node.specs.Shape.{pick, shapes, lookUp, shapeOf, dueIn, stateAfter, anItem}
 use Rattle.node.specs.Names.{stands, chain, itemPlaces, itemBytes, namesEnd}
 use Rattle.node.specs.Layout.{kindAt, classAt, startAt, stopAt, layoutOf}
 use Rattle.node.specs.Fine.{FineRecord, FineList}
 use Rattle.node.specs.Record.{Records, noRecords, recordThen, isSlot, hasSlot, fieldCount, holdsFreeBytes, headAt, bytesAt, recordsAt, slotPlaces, itemSlotPlaces}
-use Rattle.node.specs.declared.shape.Shape.{Shape}
-use Rattle.node.specs.declared.shape.Holds.{Holds}
-use Rattle.node.specs.declared.shape.Holds.the-variants.{Items}
 use Rattle.node.specs.declared.layout.Layout.the-variants.{Good}
-use Rattle.node.proofs.ShapeLaws.{and-both}
 use Rattle.node.proofs.Open.{opened, split-may, module-parts, names-end, item-chain}
 use Rattle.meaning.specs.Context.{each}
 use Rattle.meaning.specs.Promise.{inSlot, itemPlace, itemAt, itemCount}

@@ -6,7 +6,7 @@ use mathlib.Core.List.{List, [], _∷_, _++_, map, map-append}
 use mathlib.Core.Logic.{inl, inr}
 use lib.ListN.{length}
 use native.Mathlib.Omega.{arith}
-use Rattle.node.specs.Shape.{anItem}
+use Rattle.shape.specs.Shape.{anItem}
 use Rattle.node.specs.Names.{namesEnd, itemPlaces, itemBytes}
 use Rattle.node.specs.Layout.{layoutOf}
 use Rattle.node.specs.Fine.{FineRecord}

@@ -1,9 +1,9 @@
 // The records of a module in byte order, and their slots. What the module's layout promises is tested here, not asked for.
 use node::bytes::half;
 use node::bytes::length_at;
-use node::shape::Holds;
-use node::shape::Rule;
-use node::shape::shape_of;
+use shape::Holds;
+use shape::Rule;
+use shape::shape_of;
 ghost use Prim.Native.Nat.{_<_, _≤_};
 ghost use lib.ListN.{length};
 

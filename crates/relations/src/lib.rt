@@ -265,10 +265,10 @@ pub fn word_size(rows: &[u32], count: u32, n: u32, work: &mut [u32]) -> WordSize
 fn one_type(rows: &[u32], count: u32, n: u32) -> bool
     ensures { λ r. ⌜ Decides (OneType (now (rows .entry)) count n) r ⌝ }
 {
-    if !types::is_table(rows, count) {
+    if !validate::is_table(rows, count) {
         return false;
     }
-    types::is_type(rows, count, n)
+    validate::is_type(rows, count, n)
 }
 
 // Whether the rows obey the rules, and both m and n are type rows.
@@ -278,7 +278,7 @@ fn two_types(rows: &[u32], count: u32, m: u32, n: u32) -> bool
     if !one_type(rows, count, m) {
         return false;
     }
-    types::is_type(rows, count, n)
+    validate::is_type(rows, count, n)
 }
 
 // Whether the type of row source may be assigned to that of row target.

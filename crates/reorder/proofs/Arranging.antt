@@ -8,13 +8,13 @@ use lib.Dec.{eqb}
 use lib.ListN.{length, getD, take, drop, length-append, length-take, length-drop}
 use lib.Seq.{paste, take-suc, drop-cons, take-at, drop-at, drop-append-add, drop-drop, take-length, length-take-le, take-all, drop-length}
 use borrow.Author.Tests.{eqb-true, eqb-false}
+use Rattle.shape.specs.Shape.{anItem, dueIn}
+use Rattle.shape.specs.declared.Holds.the-variants.{Items}
 use Rattle.node.specs.Bytes.{wordAt}
-use Rattle.node.specs.Shape.{anItem, dueIn}
 use Rattle.node.specs.Names.{stands, chain, namesEnd, itemPlaces, itemBytes}
 use Rattle.node.specs.Layout.{stopAt, layoutOf}
 use Rattle.node.specs.Fine.{FineRecord, FineList}
 use Rattle.node.specs.declared.layout.Layout.the-variants.{Good}
-use Rattle.node.specs.declared.shape.Holds.the-variants.{Items}
 use Rattle.node.proofs.Open.{opened, split-may, fine-stands, module-parts, names-end, item-chain}
 use Rattle.meaning.proofs.Permutation.{along, invariant}
 use Rattle.reorder.specs.Order.{joined, arranged, Places}

@@ -7,13 +7,13 @@ use native.Mathlib.Omega.{arith}
 use lib.ListN.{length, take, set, length-set}
 use lib.Seq.{take-suc-set, append-snoc}
 use borrow.Author.Tests.{lt-leb}
+use Rattle.shape.specs.Shape.{aNames, anItem, dueIn}
+use Rattle.shape.specs.declared.Holds.the-variants.{Items}
 use Rattle.node.specs.Bytes.{wordAt}
-use Rattle.node.specs.Shape.{aNames, anItem, dueIn}
 use Rattle.node.specs.Names.{stands, chain, itemPlaces}
 use Rattle.node.specs.Layout.{layoutOf, maxBytes}
 use Rattle.node.specs.Fine.{FineList}
 use Rattle.node.specs.declared.layout.Layout.the-variants.{Good}
-use Rattle.node.specs.declared.shape.Holds.the-variants.{Items}
 use Rattle.node.proofs.Open.{opened, split-may, fine-stands, module-parts, item-chain}
 use Rattle.node.proofs.NameLaws.{chain-none, chain-more}
 use Rattle.reorder.specs.Order.{Listed}

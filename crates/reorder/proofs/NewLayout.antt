@@ -7,14 +7,14 @@ use native.Mathlib.Omega.{arith}
 use lib.Dec.{eqb, ltb}
 use lib.ListN.{length, take, length-append, length-map}
 use borrow.Author.Tests.{eq-eqb, ne-eqb, le-ltb}
+use Rattle.shape.specs.Shape.{pick, shapeOf, dueIn, isDone, mayStand, stateAfter, mustBe, aModule, aNames, anItem}
+use Rattle.shape.specs.declared.Holds.{Holds}
+use Rattle.shape.specs.declared.Holds.the-variants.{Nothing, OneModule, NamesThenItems, Items}
+use Rattle.shape.proofs.ShapeLaws.{module-kind}
 use Rattle.node.specs.Bytes.{wordAt}
-use Rattle.node.specs.Shape.{pick, shapeOf, dueIn, isDone, mayStand, stateAfter, mustBe, aModule, aNames, anItem}
 use Rattle.node.specs.Names.{namePlaces, nameBytes, namesOf, nameCount, itemBytes}
 use Rattle.node.specs.Layout.{maxBytes, maxDepth, kindAt, classAt, stopAt, answerIf, afterHead, listAt, recordAt, layoutOf}
-use Rattle.node.specs.declared.shape.Holds.{Holds}
-use Rattle.node.specs.declared.shape.Holds.the-variants.{Nothing, OneModule, NamesThenItems, Items}
 use Rattle.node.specs.declared.layout.Layout.the-variants.{Good, TooLong}
-use Rattle.node.proofs.ShapeLaws.{module-kind}
 use Rattle.node.proofs.LayoutLaws.{list-step, record-step}
 use Rattle.node.proofs.Open.{headed, opened, split-must, module-list, module-parts}
 use Rattle.reorder.specs.Order.{joined, arranged, Places}

@@ -8,10 +8,10 @@ use lib.Dec.{leb}
 use lib.ListN.{length, getD, take, drop, length-append, List·getD-append}
 use lib.Seq.{getD-take, getD-drop, getD-append-add, take-at, drop-at, length-take-le}
 use borrow.Author.Tests.{le-leb, leb-true}
+use Rattle.shape.specs.Shape.{pick}
+use Rattle.shape.proofs.ShapeLaws.{and-both}
 use Rattle.node.specs.Bytes.{wordAt}
-use Rattle.node.specs.Shape.{pick}
 use Rattle.node.specs.Names.{stands, chain, namesEnd, namePlaces, nameBytes, namesOf, itemPlaces, itemBytes, itemsOf, sameBytes}
-use Rattle.node.proofs.ShapeLaws.{and-both}
 use Rattle.node.proofs.Open.{module-parts, names-end}
 use Rattle.node.proofs.NameLaws.{chain-none}
 use Rattle.meaning.specs.JoiningOrder.{timesIn, AnotherOrder}

@@ -9,13 +9,13 @@ use lib.ListN.{length}
 use Rattle.types.specs.Ty.{Ty, bool}
 use Rattle.types.proofs.Fixed.{fixed-is}
 use Rattle.relations.specs.Entry.{OneType, TwoTypes}
+use Rattle.shape.specs.Shape.{aType, anExpression, aCompound, aStatement}
+use Rattle.shape.specs.declared.Holds.the-variants as holds
 use Rattle.node.specs.Bytes.{Read, wordAt}
-use Rattle.node.specs.Shape.{aType, anExpression, aCompound, aStatement}
 use Rattle.node.specs.Layout.{kindAt, startAt, stopAt}
 use Rattle.node.specs.Fine.{FineRecord, FineList, Opened}
 use Rattle.node.specs.Tree.{Location, TypeNode, InitialValue, Statement, expression, variableDeclaration, assignment, compoundAssignment, return, while}
 use Rattle.node.specs.Record.{locationAt, typeAt, expressionAt, compoundAt, statementAt, toOptional, recordsAt}
-use Rattle.node.specs.declared.shape.Holds.the-variants as holds
 use Rattle.node.specs.declared.names.BuiltIns.{BuiltIns}
 use Rattle.node.proofs.Open.{opened}
 use Rattle.node.proofs.ExpressionTrees.{expression-room}

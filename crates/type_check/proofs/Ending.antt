@@ -12,14 +12,14 @@ use Rattle.types.specs.Ty.{Ty, same, member, distinctCount, fixedTypes}
 use Rattle.types.specs.Table.{rowWidth, Table}
 use Rattle.types.specs.Post.{FixedStored}
 use Rattle.fallible.specs.Errors.{errorWidth, errorList, room}
+use Rattle.shape.specs.Shape.{aNames}
+use Rattle.shape.specs.declared.Holds.the-variants.{Items}
 use Rattle.node.specs.Bytes.{byteAt, wordAt}
 use Rattle.node.specs.Names.{namesOf, nameCount, builtIns}
 use Rattle.node.specs.Layout.{maxBytes}
-use Rattle.node.specs.Shape.{aNames}
 use Rattle.node.specs.Tree.{Item}
 use Rattle.node.specs.Fine.{FineList}
 use Rattle.node.specs.declared.names.BuiltIns.{BuiltIns}
-use Rattle.node.specs.declared.shape.Holds.the-variants.{Items}
 use Rattle.node.proofs.Open.{module-parts, opened}
 use Rattle.meaning.specs.Context.{context, blank, each}
 use Rattle.meaning.specs.Module.{emptyContext, neededTypes}

@@ -5,8 +5,9 @@ use mathlib.Core.Bool.{Bool, true, false}
 use mathlib.Core.List.{List, [], _∷_, _++_, map, map-append, append-nil}
 use native.Mathlib.Omega.{arith}
 use lib.ListN.{length, getD}
+use Rattle.shape.specs.Shape.{anItem, pick}
+use Rattle.shape.specs.declared.Holds.the-variants.{Items}
 use Rattle.node.specs.Bytes.{wordAt}
-use Rattle.node.specs.Shape.{anItem, pick}
 use Rattle.node.specs.Names.{stands, chain, itemPlaces, itemBytes, itemsOf, builtIns, repeatedName}
 use Rattle.node.specs.Layout.{layoutOf, stopAt}
 use Rattle.node.specs.Fine.{FineRecord, FineList}
@@ -14,7 +15,6 @@ use Rattle.node.specs.Tree.{Item}
 use Rattle.node.specs.Record.{recordsAt, recordsWith, itemOf}
 use Rattle.node.specs.declared.layout.Layout.the-variants.{Good}
 use Rattle.node.specs.declared.names.Repeated.the-variants.{Nowhere}
-use Rattle.node.specs.declared.shape.Holds.the-variants.{Items}
 use Rattle.node.proofs.Open.{module-parts, item-chain}
 use Rattle.node.proofs.Decode.{records-cons, records-end}
 use Rattle.types.specs.Ty.{Ty, parts}

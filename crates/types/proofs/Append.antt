@@ -13,7 +13,7 @@ use Rattle.types.specs.Table.{Words, words, rowAt, build, unfolded, hasT
 use Rattle.types.specs.Post.{Added, Found, highestPart, stored}
 use Rattle.types.proofs.Laws.{unfolded-row, build-below, words-injective, first-at-most, second-at-most, first-lower, second-lower}
 use Rattle.types.proofs.Grow.{Kept, kept-row, kept-unfolded, kept-ok}
-use Rattle.types.proofs.Validate.{Rows, rows-add}
+use Rattle.types.proofs.Rows.{Rows, rows-add}
 use Rattle.types.proofs.Set.{has-none, added-last}
 
 -- A row that is none of a table's rows is none of its types

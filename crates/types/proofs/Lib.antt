@@ -2,9 +2,7 @@ pub mod Laws
 pub mod Grow
 pub mod Query
 pub mod Lists
-pub mod Decide
-pub mod Validate
-pub mod Search
+pub mod Rows
 pub mod Fixed
 pub mod Set
 pub mod Append

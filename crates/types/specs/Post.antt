@@ -9,9 +9,10 @@ use lib.Dec.{eqb, ltb}
 use lib.ListN.{length, getD, set}
 use Rattle.types.specs.Ty.{Ty, same, member, fixedTypes, kindOf, pointer, array, struct, function, alias, distinct, field, argument, pointerKind, arrayKind, structKind, functionKind, aliasKind, distinctKind, fieldKind, argumentKind, stringName}
 use Rattle.types.specs.Table.{Words, words, rowWidth, rowAt, fixedCount, unfolded, hasType, Table, Extends, IsType, IsCell}
+pub use Rattle.rows.specs.Row.{stored}
+pub use Rattle.rows.specs.Search.{Found}
 use Rattle.types.specs.declared.Row.{Row}
 use Rattle.types.specs.declared.Row.the-variants.{Pointer, Array, Struct, Function, Alias, DistinctAlias, Field, Argument}
-use Rattle.types.specs.declared.Key.{Key}
 use Rattle.types.specs.declared.Interned.{Interned}
 use Rattle.types.specs.declared.Interned.the-variants.{At, Full}
 
@@ -109,45 +110,6 @@ pub record FoundType (w : List ℕ) (count : ℕ) (found : Option Ty) (r : ℕ) 
 abbrev pub HasTypePart : Ty → Type 0
 HasTypePart t = (pointerKind ≤ kindOf t) × (kindOf t ≡ structKind → ⊥)
 
--- w with r as row count + 1
-abbrev pub stored : List ℕ → (count : ℕ) → Words → List ℕ
-stored w count r =
-    set (set (set (set w (rowWidth * count) (r .kind)) (rowWidth * count + 1) (r .first)) (rowWidth * count + 2) (r .second)) (rowWidth * count + 3) (r .name)
-
 -- The highest row that a row points to, or 0: a size is no row
 abbrev pub highestPart : Words → ℕ
 highestPart r = cond (eqb (r .kind) arrayKind) (r .first) (cond (ltb (r .first) (r .second)) (r .second) (r .first))
-
--- Row n has the key
-abbrev pub HasKey : List ℕ → Key → (n : ℕ) → Type 0
-HasKey w key n = getD w (rowWidth * n - rowWidth + key .place) 0 ≡ key .word
-
--- None of the rows past row m, as far as row n, has it
-pub record NoneWith (w : List ℕ) (key : Key) (m n : ℕ) : Type 0 where
-  pub none : (i : ℕ) → m < i → i ≤ n → HasKey w key i → ⊥
-
--- Every row with the words r has the key
-pub record KeyOf (r : Words) (key : Key) : Type 0 where
-  pub inside : key .place < rowWidth
-  pub has : (w : List ℕ) (n : ℕ) → rowAt w n ≡ r → HasKey w key n
-
--- No row from m to n has the key but perhaps m itself
-pub record Skipped (w : List ℕ) (m count : ℕ) (key : Key) (n : ℕ) : Type 0 where
-  pub low : m ≤ n
-  pub high : n ≤ count
-  pub none : NoneWith w key m n
-
--- n is the first row past row m that has the key, or 0
-pub record NextWith (w : List ℕ) (m count : ℕ) (key : Key) (n : ℕ) : Type 0 where
-  pub high : n ≤ count
-  pub past : 1 ≤ n → m < n
-  pub has : 1 ≤ n → HasKey w key n
-  pub first : 1 ≤ n → NoneWith w key m (n - 1)
-  pub absent : n ≡ 0 → NoneWith w key m count
-
--- n is the number of a row past row m that has the words r, or 0 where there is none
-pub record Found (w : List ℕ) (m count : ℕ) (r : Words) (n : ℕ) : Type 0 where
-  pub high : n ≤ count
-  pub past : 1 ≤ n → m < n
-  pub found : 1 ≤ n → rowAt w n ≡ r
-  pub absent : n ≡ 0 → (i : ℕ) → m < i → i ≤ count → rowAt w i ≡ r → ⊥

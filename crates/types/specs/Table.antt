@@ -7,22 +7,11 @@ use mathlib.Core.Logic.{_⊎_}
 use lib.ListN.{length, getD}
 use lib.Dec.{eqb, ltb}
 use Rattle.types.specs.Ty.{Ty, end, node, same, unknownKind, voidKind, boolKind, u16Kind, i16Kind, pointerKind, arrayKind, structKind, functionKind, aliasKind, distinctKind, fieldKind, argumentKind, stringName}
-pub use Rattle.types.specs.declared.Words.{Words}
+pub use Rattle.rows.specs.declared.Words.{Words}
+pub use Rattle.rows.specs.Row.{rowWidth, words, rowAt}
+pub use Rattle.rows.specs.Search.{Decides}
 use Rattle.types.specs.declared.PartKind.{PartKind}
 use Rattle.types.specs.declared.PartKind.the-variants.{Unused, TypeRow, Size, Fields, Arguments}
-
--- A row is four words
-abbrev pub rowWidth : ℕ
-rowWidth = 4
-
--- The words of a row: kind, first, second, name
-abbrev pub words : (kind first second name : ℕ) → Words
-words k f s n = record { kind = k; first = f; second = s; name = n }
-
--- Row n of the table w
-abbrev pub rowAt : List ℕ → ℕ → Words
-rowAt w n =
-    words (getD w (rowWidth * n - rowWidth) 0) (getD w (rowWidth * n - rowWidth + 1) 0) (getD w (rowWidth * n - rowWidth + 2) 0) (getD w (rowWidth * n - rowWidth + 3) 0)
 
 -- A row unfolded, where `look` unfolds the rows that it points to
 abbrev pub build : Words → (look : ℕ → Ty) → Ty
@@ -123,8 +112,3 @@ pub record Extends (w : List ℕ) (count : ℕ) (w′ : List ℕ) (count′ : �
   pub long : length w′ ≡ length w
   pub kept : (i : ℕ) → i < rowWidth * count → getD w′ i 0 ≡ getD w i 0
   pub past : (i : ℕ) → rowWidth * count′ ≤ i → getD w′ i 0 ≡ getD w i 0
-
--- An answer says whether P holds
-pub record Decides (P : Type 0) (answer : Bool) : Type 0 where
-  pub yes : answer ≡ true → P
-  pub no : answer ≡ false → P → ⊥

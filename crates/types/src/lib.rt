@@ -1,19 +1,21 @@
-// The table of type rows: four words a row in a lent slice, rows numbered from 1, no two alike.
+// The table of type rows in a lent slice, rows numbered from 1, no two alike.
 // Whoever calls these functions knows a row only by the type that it unfolds to.
+use rows::ROW_WIDTH;
+use rows::Words;
+use rows::find;
+use rows::row_at;
+use rows::store;
 ghost use mathlib.Core.Path.{_≡_};
 ghost use Prim.Native.Nat.{_+_, _*_, _^_, _≤_, _<_};
 ghost use lib.ListN.{length};
 ghost use Rattle.types.specs.Ty.{kindOf, firstOf, secondOf, sizeOf, nameOf, desugar as desugared, removeAliasing, cellCount, fieldNamed, arrayKind, structKind, functionKind, fieldKind, argumentKind};
-ghost use Rattle.types.specs.Table.{words, rowWidth, fixedCount, rowAt, unfolded, FixedRows, firstPart, secondPart, Table, RowOk, PartOk, NameOk, IsType, IsCell, IsList, Decides};
-ghost use Rattle.types.specs.Post.{wordsOf, stored, highestPart, PartsOk, InternPost, FixedStored, KeyOf, NoneWith, Skipped, NextWith, Found, HasTypePart, TypePart, CellPart, FoundType};
-
-// Words in a row.
-pub const ROW_WIDTH: usize = 4;
+ghost use Rattle.types.specs.Table.{rowWidth, fixedCount, unfolded, Table, IsType, IsList};
+ghost use Rattle.types.specs.Post.{wordsOf, highestPart, PartsOk, InternPost, FixedStored, HasTypePart, TypePart, CellPart, FoundType};
 
 // The rows that every table begins with, and their words.
 pub const FIXED_COUNT: u32 = 7;
 
-const FIXED_LENGTH: usize = 28;
+pub const FIXED_LENGTH: usize = 28;
 
 // The kinds of rows.
 pub const UNKNOWN: u32 = 1;
@@ -46,7 +48,7 @@ pub const ARGUMENT: u32 = 13;
 pub const STRING_NAME: u32 = 65535;
 
 // Unknown, void, bool, u16, i16, pointer to u16, String.
-const FIXED_WORDS: [u32; FIXED_LENGTH] = [
+pub const FIXED_WORDS: [u32; FIXED_LENGTH] = [
     UNKNOWN,
     0,
     0,
@@ -77,27 +79,6 @@ const FIXED_WORDS: [u32; FIXED_LENGTH] = [
     STRING_NAME,
 ];
 
-// The words of a row.
-pub struct Words {
-    pub kind: u32,
-    pub first: u32,
-    pub second: u32,
-    pub name: u32,
-}
-
-impl Words {
-    fn new(kind: u32, first: u32, second: u32, name: u32) -> Self
-        ensures { λ r. ⌜ r ≡ words kind first second name ⌝ }
-    {
-        Self {
-            kind,
-            first,
-            second,
-            name,
-        }
-    }
-}
-
 // What the first or the second word of a row is: 0, a type row, a size, or a list of cells.
 pub enum PartKind {
     Unused,
@@ -119,30 +100,10 @@ pub enum Row {
     Argument { ty: u32, rest: u32 },
 }
 
-// A word of a row, and its place in it.
-struct Key {
-    place: usize,
-    word: u32,
-}
-
 // The answer of `intern`: the row's number and the new count, or no room for one more row.
 pub enum Interned {
     At { number: u32, count: u32 },
     Full,
-}
-
-// The words of row n.
-fn row_at(rows: &[u32], n: u32) -> Words
-    requires { ⌜ (1 ≤ n) × (rowWidth * n ≤ length (now rows)) ⌝ }
-    ensures { λ r. ⌜ r ≡ rowAt (now (rows .entry)) n ⌝ }
-{
-    let at = ROW_WIDTH * (n as usize) - ROW_WIDTH;
-    Words {
-        kind: rows[at],
-        first: rows[at + 1],
-        second: rows[at + 2],
-        name: rows[at + 3],
-    }
 }
 
 // The kind of row n.
@@ -269,265 +230,6 @@ pub fn remove_aliasing(rows: &[u32], count: u32, n: u32) -> u32
     }
 }
 
-// Whether v is a type row among the rows 1 to m.
-pub fn is_type(rows: &[u32], m: u32, v: u32) -> bool
-    requires { ⌜ rowWidth * m ≤ length (now rows) ⌝ }
-    ensures { λ r. ⌜ Decides (IsType (now (rows .entry)) m v) r ⌝ }
-{
-    if v < 1 {
-        return false;
-    }
-    if m < v {
-        return false;
-    }
-    let row = row_at(rows, v);
-    row.kind <= DISTINCT_ALIAS
-}
-
-// Whether v is 0, or a cell of that kind among the rows 1 to m.
-fn is_cell(rows: &[u32], m: u32, kind: u32, v: u32) -> bool
-    requires { ⌜ rowWidth * m ≤ length (now rows) ⌝ }
-    ensures { λ r. ⌜ Decides (IsCell (now (rows .entry)) m kind v) r ⌝ }
-{
-    if v < 1 {
-        return true;
-    }
-    if m < v {
-        return false;
-    }
-    let row = row_at(rows, v);
-    row.kind == kind
-}
-
-// What the first word of a row of that kind is.
-fn first_part(kind: u32) -> PartKind
-    ensures { λ r. ⌜ r ≡ firstPart kind ⌝ }
-{
-    if kind < POINTER {
-        return PartKind::Unused;
-    }
-    if kind == STRUCT {
-        return PartKind::Fields;
-    }
-    PartKind::TypeRow
-}
-
-// What the second word is.
-fn second_part(kind: u32) -> PartKind
-    ensures { λ r. ⌜ r ≡ secondPart kind ⌝ }
-{
-    match kind {
-        ARRAY => PartKind::Size,
-        FIELD => PartKind::Fields,
-        FUNCTION | ARGUMENT => PartKind::Arguments,
-        _ => PartKind::Unused,
-    }
-}
-
-// Whether v may stand where that part is due, behind the rows 1 to m.
-fn is_part(rows: &[u32], m: u32, part: PartKind, v: u32) -> bool
-    requires { ⌜ rowWidth * m ≤ length (now rows) ⌝ }
-    ensures { λ r. ⌜ Decides (PartOk (now (rows .entry)) m part v) r ⌝ }
-{
-    match part {
-        PartKind::Unused => v == 0,
-        PartKind::TypeRow => is_type(rows, m, v),
-        PartKind::Size => true,
-        PartKind::Fields => is_cell(rows, m, FIELD, v),
-        PartKind::Arguments => is_cell(rows, m, ARGUMENT, v),
-    }
-}
-
-// Whether row n, of that kind, may have that name.
-fn is_name(n: u32, kind: u32, name: u32) -> bool
-    ensures { λ r. ⌜ Decides (NameOk n kind name) r ⌝ }
-{
-    if name < 1 {
-        return true;
-    }
-    if kind < ALIAS {
-        return false;
-    }
-    if FIELD < kind {
-        return false;
-    }
-    if name != STRING_NAME {
-        return true;
-    }
-    n == FIXED_COUNT
-}
-
-// Whether the row may stand behind the rows 1 to m.
-fn is_row(rows: &[u32], m: u32, row: Words) -> bool
-    requires { ⌜ (rowWidth * m ≤ length (now rows)) × (m + 1 < 2 ^ 32) ⌝ }
-    ensures { λ r. ⌜ Decides (RowOk (now (rows .entry)) m row) r ⌝ }
-{
-    if row.kind < UNKNOWN {
-        return false;
-    }
-    if ARGUMENT < row.kind {
-        return false;
-    }
-    if !is_part(rows, m, first_part(row.kind), row.first) {
-        return false;
-    }
-    if !is_part(rows, m, second_part(row.kind), row.second) {
-        return false;
-    }
-    is_name(m + 1, row.kind, row.name)
-}
-
-// Whether the table begins with the fixed rows.
-fn has_fixed_rows(rows: &[u32]) -> bool
-    requires { ⌜ rowWidth * fixedCount ≤ length (now rows) ⌝ }
-    ensures { λ r. ⌜ Decides (FixedRows (now (rows .entry))) r ⌝ }
-{
-    let mut i = 0;
-    while i < FIXED_LENGTH {
-        if rows[i] != FIXED_WORDS[i] {
-            return false;
-        }
-        i += 1;
-    }
-    true
-}
-
-// Whether two rows have the same words. Rows behind the same part differ most often in the second word or the name.
-fn alike(a: Words, b: Words) -> bool
-    ensures { λ r. ⌜ Decides (a ≡ b) r ⌝ }
-{
-    if a.second != b.second {
-        return false;
-    }
-    if a.name != b.name {
-        return false;
-    }
-    if a.first != b.first {
-        return false;
-    }
-    a.kind == b.kind
-}
-
-// The word by which a row is looked for, since few rows have it: the name, or the second word, or the first, whichever is not 0.
-fn key_of(row: Words) -> Key
-    ensures { λ r. ⌜ KeyOf row r ⌝ }
-{
-    if row.name != 0 {
-        return Key {
-            place: 3,
-            word: row.name,
-        };
-    }
-    if row.second != 0 {
-        return Key {
-            place: 2,
-            word: row.second,
-        };
-    }
-    Key {
-        place: 1,
-        word: row.first,
-    }
-}
-
-// Whether none of the four rows past row n has the key.
-fn none_of_four(rows: &[u32], n: u32, key: Key) -> bool
-    requires { ⌜ (key .place < rowWidth) × (rowWidth * n + rowWidth * 4 ≤ length (now rows)) ⌝ }
-    ensures { λ r. ⌜ Decides (NoneWith (now (rows .entry)) key n (n + 4)) r ⌝ }
-{
-    let at = ROW_WIDTH * (n as usize) + key.place;
-    if rows[at] == key.word {
-        return false;
-    }
-    if rows[at + ROW_WIDTH] == key.word {
-        return false;
-    }
-    if rows[at + ROW_WIDTH * 2] == key.word {
-        return false;
-    }
-    if rows[at + ROW_WIDTH * 3] == key.word {
-        return false;
-    }
-    true
-}
-
-// Goes on from row m, four rows at a time, while none of them has the key.
-fn skip_rows(rows: &[u32], m: u32, count: u32, key: Key) -> u32
-    requires { ⌜ (key .place < rowWidth) × (m ≤ count) × (rowWidth * count ≤ length (now rows)) ⌝ }
-    ensures { λ r. ⌜ Skipped (now (rows .entry)) m count key r ⌝ }
-{
-    let mut n = m;
-    while 4 <= count - n {
-        if !none_of_four(rows, n, key) {
-            return n;
-        }
-        n += 4;
-    }
-    n
-}
-
-// The first row past row m that has the key, or 0.
-fn next_with(rows: &[u32], m: u32, count: u32, key: Key) -> u32
-    requires { ⌜ (key .place < rowWidth) × (m ≤ count) × (rowWidth * count ≤ length (now rows)) ⌝ }
-    ensures { λ r. ⌜ NextWith (now (rows .entry)) m count key r ⌝ }
-{
-    let mut n = skip_rows(rows, m, count, key);
-    while n < count {
-        let at = ROW_WIDTH * (n as usize) + key.place;
-        n += 1;
-        if rows[at] == key.word {
-            return n;
-        }
-    }
-    0
-}
-
-// The row past row m that has these words, or 0.
-fn find(rows: &[u32], m: u32, count: u32, row: Words) -> u32
-    requires { ⌜ (m ≤ count) × (rowWidth * count ≤ length (now rows)) ⌝ }
-    ensures { λ r. ⌜ Found (now (rows .entry)) m count row r ⌝ }
-{
-    let key = key_of(row);
-    let mut n = m;
-    loop {
-        let next = next_with(rows, n, count, key);
-        if next == 0 {
-            return 0;
-        }
-        if alike(row_at(rows, next), row) {
-            return next;
-        }
-        n = next;
-    }
-}
-
-// Whether the first `count` rows obey the rules.
-pub fn is_table(rows: &[u32], count: u32) -> bool
-    ensures { λ r. ⌜ Decides (Table (now (rows .entry)) count) r ⌝ }
-{
-    if count < FIXED_COUNT {
-        return false;
-    }
-    if rows.len() < ROW_WIDTH * (count as usize) {
-        return false;
-    }
-    if !has_fixed_rows(rows) {
-        return false;
-    }
-    let mut m: u32 = 0;
-    while m < count {
-        let row = row_at(rows, m + 1);
-        if !is_row(rows, m, row) {
-            return false;
-        }
-        if find(rows, 0, m, row) != 0 {
-            return false;
-        }
-        m += 1;
-    }
-    true
-}
-
 // The words of a row that is asked for.
 fn words_of(row: Row) -> Words
     ensures { λ r. ⌜ r ≡ wordsOf row ⌝ }
@@ -558,18 +260,6 @@ fn highest_part(row: Words) -> u32
         return row.second;
     }
     row.first
-}
-
-// Stores the row behind the first `count` rows.
-fn store(rows: &mut [u32], count: u32, row: Words)
-    requires { ⌜ rowWidth * count + rowWidth ≤ length (now rows) ⌝ }
-    ensures { λ _. ⌜ now (rows .exit) ≡ stored (now (rows .entry)) count row ⌝ }
-{
-    let at = ROW_WIDTH * (count as usize);
-    rows[at] = row.kind;
-    rows[at + 1] = row.first;
-    rows[at + 2] = row.second;
-    rows[at + 3] = row.name;
 }
 
 // The row that is asked for: found, or added behind the first `count` rows.

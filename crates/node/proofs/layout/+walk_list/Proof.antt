@@ -1,5 +1,7 @@
 -- `node::layout::walk_list` meets its contract. Assumes nothing.
 use mathlib.Core.Path.{sym, _∙_}
+use Rattle.shape.proofs.due_in.Reads as due-in-reads
+use Rattle.shape.proofs.is_done.Reads as is-done-reads
 use Rattle.node.proofs.LayoutLaws as laws
 use borrow.Author.Needs.{needs}
 use native.Mathlib.Omega.{arith}
@@ -10,8 +12,6 @@ use Rattle.node.proofs.layout.walk_list.Reads as walk-list
 use Rattle.node.proofs.layout.walk_list.Kinds as walk-list-kinds
 use Rattle.node.proofs.layout.+walk_list.Lts-walk_list as walk-list-lts
 use Rattle.node.proofs.layout.head_at.Reads as head-at-reads
-use Rattle.node.proofs.shape.due_in.Reads as due-in-reads
-use Rattle.node.proofs.shape.is_done.Reads as is-done-reads
 use Rattle.node.proofs.layout.+walk_list.{statement}
 use Rattle.node.proofs.layout.+walk_list.Tie.{close}
 

@@ -1,0 +1,23 @@
+-- Rows of words in a slice, numbered from 1.
+use Prim.Native.Nat.{ℕ, _+_, _-_, _*_}
+use mathlib.Core.List.{List}
+use lib.ListN.{getD, set}
+use Rattle.rows.specs.declared.Words.{Words}
+
+-- A row is four words
+abbrev pub rowWidth : ℕ
+rowWidth = 4
+
+-- The words of a row: kind, first, second, name
+abbrev pub words : (kind first second name : ℕ) → Words
+words k f s n = record { kind = k; first = f; second = s; name = n }
+
+-- Row n of the table w
+abbrev pub rowAt : List ℕ → ℕ → Words
+rowAt w n =
+    words (getD w (rowWidth * n - rowWidth) 0) (getD w (rowWidth * n - rowWidth + 1) 0) (getD w (rowWidth * n - rowWidth + 2) 0) (getD w (rowWidth * n - rowWidth + 3) 0)
+
+-- w with r as row count + 1
+abbrev pub stored : List ℕ → (count : ℕ) → Words → List ℕ
+stored w count r =
+    set (set (set (set w (rowWidth * count) (r .kind)) (rowWidth * count + 1) (r .first)) (rowWidth * count + 2) (r .second)) (rowWidth * count + 3) (r .name)
