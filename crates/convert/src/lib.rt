@@ -1,5 +1,6 @@
 // `convert_node_type`: type records to type rows.
 use fallible::Error;
+use fallible::kinds::UNKNOWN_TYPE;
 use node::bytes::half;
 use node::bytes::length_at;
 use node::bytes::word;
@@ -34,9 +35,6 @@ const ARRAY: u32 = 19;
 
 // The row of String; that of another built-in type has the number of its kind.
 const STRING: u32 = 7;
-
-// The kind of error of a name that stands for no type.
-const UNKNOWN_TYPE: u32 = 1;
 
 // A pass of the check: the numbers of the built-in names, and whether it fills the slots, as pass 2 does.
 pub struct Pass {

@@ -1,5 +1,9 @@
 // Pass 1 of `type_check_module`: the declared types of the items.
 use convert::Pass;
+use fallible::kinds::ALIAS_OF_BUILT_IN;
+use fallible::kinds::DUPLICATE_ALIAS;
+use fallible::kinds::INTERNAL_MISMATCH;
+use fallible::kinds::NO_BUILT_IN_FOR_INTERNAL;
 use node::bytes::half;
 use node::bytes::length_at;
 use node::bytes::word;
@@ -37,15 +41,6 @@ const PARAMETER: u32 = 85;
 const DISTINCT: u32 = 1;
 
 const INTERNAL: u32 = 2;
-
-// The kinds of errors.
-const NO_BUILT_IN_FOR_INTERNAL: u32 = 2;
-
-const INTERNAL_MISMATCH: u32 = 3;
-
-const DUPLICATE_ALIAS: u32 = 4;
-
-const ALIAS_OF_BUILT_IN: u32 = 5;
 
 // The place after the parameter at `from`, or 0 where none is left.
 fn parameter_end(s: &[u8], from: usize, end: usize, depth: usize) -> usize

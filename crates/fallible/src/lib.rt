@@ -1,4 +1,6 @@
 // The error list of a check: words in a lent slice, and a count.
+pub mod kinds;
+
 ghost use mathlib.Core.Path.{_≡_};
 ghost use Rattle.fallible.specs.Errors.{errorList, pushed};
 

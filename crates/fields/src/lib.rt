@@ -1,5 +1,8 @@
 // Struct compounds, once the values of their fields are typed. The rows of the values are read back from their slots.
 use convert::error_at;
+use fallible::kinds::FIELD_ASSIGNED_TWICE;
+use fallible::kinds::NO_STRUCT_TARGET;
+use fallible::kinds::NO_SUCH_TARGET_FIELD;
 use node::bytes::length_at;
 use node::bytes::word;
 use rules::check_types_are_assignable;
@@ -32,7 +35,7 @@ fn check_field(
     let name = word(s, place + 16);
     let field = types::field_named(rows, state.rows, bare, name);
     if field == 0 {
-        let error = error_at(s, place, 27, name, 0, 0);
+        let error = error_at(s, place, NO_SUCH_TARGET_FIELD, name, 0, 0);
         return state::report(errors, state, error);
     }
     let got = word(output, place + 36);
@@ -98,7 +101,7 @@ pub fn check_repeats(s: &[u8], from: usize, end: usize, errors: &mut [u32], stat
     while at < end {
         let name = word(s, at + 16);
         let once = occurrences(s, from, end, name) <= 1;
-        next = report_unless(once, s, at, 29, name, 0, 0, errors, next);
+        next = report_unless(once, s, at, FIELD_ASSIGNED_TWICE, name, 0, 0, errors, next);
         at = at + length_at(s, at);
     }
     next
@@ -121,7 +124,7 @@ pub fn struct_compound(
 {
     let bare = types::desugar(rows, state.rows, target);
     if types::kind(rows, state.rows, bare) != types::STRUCT {
-        let error = error_at(s, at, 28, target, 0, 0);
+        let error = error_at(s, at, NO_STRUCT_TARGET, target, 0, 0);
         return state::report(errors, state, error);
     }
     check_fields(s, from, end, bare, output, errors, rows, state)

@@ -1,6 +1,7 @@
 // Pass 2: the slots and the errors of items, one at a time.
 use convert::Pass;
 use convert::convert_node_type;
+use fallible::kinds::PATHS_WITHOUT_RETURN;
 use node::bytes::half;
 use node::bytes::length_at;
 use node::bytes::word;
@@ -37,9 +38,6 @@ const NAME: usize = 16;
 const PARTS: usize = 20;
 
 const ALIAS_PARTS: usize = 24;
-
-// A function that does not return on all paths.
-const PATHS_WITHOUT_RETURN: u32 = 6;
 
 // Where the parameters of a function end, and the state then.
 struct Entered {

@@ -1,5 +1,10 @@
 // Calls and array compounds, once the expressions in their list are typed. The rows of a list are read back from the slots of its records.
 use convert::error_at;
+use fallible::kinds::NO_ARRAY_TARGET;
+use fallible::kinds::NOT_A_FUNCTION;
+use fallible::kinds::WRONG_ARGUMENT;
+use fallible::kinds::WRONG_ARGUMENT_COUNT;
+use fallible::kinds::WRONG_LENGTH;
 use node::bytes::length_at;
 use node::bytes::word;
 use rules::check_types_are_assignable;
@@ -56,7 +61,17 @@ fn check_arguments(
         let ty = types::part(rows, state.rows, cell);
         let got = word(output, place + 16);
         let holds = relations::types_are_assignable(rows, state.rows, ty, got);
-        next = report_unless(holds, s, at, 12, position, ty, got, errors, next);
+        next = report_unless(
+            holds,
+            s,
+            at,
+            WRONG_ARGUMENT,
+            position,
+            ty,
+            got,
+            errors,
+            next,
+        );
         cell = types::rest(rows, state.rows, cell);
         place = place + length_at(s, place);
         position += 1;
@@ -80,7 +95,7 @@ pub fn call_result(
     ensures { λ r. ⌜ Call (now (s .entry)) at ty from end (now (output .entry)) (now (rows .entry)) (now (errors .entry)) state (now (errors .exit)) r ⌝ }
 {
     if types::kind(rows, state.rows, ty) != types::FUNCTION {
-        let error = error_at(s, at, 13, ty, 0, 0);
+        let error = error_at(s, at, NOT_A_FUNCTION, ty, 0, 0);
         let told = state::report(errors, state, error);
         return Typed {
             ty: types::UNKNOWN,
@@ -90,7 +105,17 @@ pub fn call_result(
     let cells = types::arguments(rows, state.rows, ty);
     let expected = types::cell_count(rows, state.rows, cells);
     let got = count_records(s, from, end);
-    let next = report_unless(expected == got, s, at, 11, expected, got, 0, errors, state);
+    let next = report_unless(
+        expected == got,
+        s,
+        at,
+        WRONG_ARGUMENT_COUNT,
+        expected,
+        got,
+        0,
+        errors,
+        state,
+    );
     let last = check_arguments(s, at, from, end, cells, output, errors, rows, next);
     Typed {
         ty: part_of(rows, state.rows, types::FUNCTION, ty),
@@ -140,12 +165,22 @@ pub fn array_compound(
 {
     let bare = types::desugar(rows, state.rows, target);
     if types::kind(rows, state.rows, bare) != types::ARRAY {
-        let error = error_at(s, at, 26, target, 0, 0);
+        let error = error_at(s, at, NO_ARRAY_TARGET, target, 0, 0);
         return state::report(errors, state, error);
     }
     let expected = types::size(rows, state.rows, bare);
     let got = count_records(s, from, end);
     let element = types::part(rows, state.rows, bare);
-    let next = report_unless(expected == got, s, at, 25, expected, got, 0, errors, state);
+    let next = report_unless(
+        expected == got,
+        s,
+        at,
+        WRONG_LENGTH,
+        expected,
+        got,
+        0,
+        errors,
+        state,
+    );
     check_elements(s, at, from, end, element, output, errors, rows, next)
 }

@@ -1,5 +1,18 @@
 // What each kind of expression adds once its parts are typed: its type and its errors. No slot is stored here.
 use fallible::Error;
+use fallible::kinds::INCOMPATIBLE_OPERANDS;
+use fallible::kinds::LEFT_NOT_BOOLEAN;
+use fallible::kinds::LITERAL_OUT_OF_RANGE;
+use fallible::kinds::NO_BITWISE_NOT;
+use fallible::kinds::NO_BOOLEAN_NOT;
+use fallible::kinds::NO_FIELDS;
+use fallible::kinds::NO_SUCH_FIELD;
+use fallible::kinds::NOT_A_POINTER;
+use fallible::kinds::NOT_AN_INDEX;
+use fallible::kinds::NOT_ASSIGNABLE;
+use fallible::kinds::NOT_CASTABLE;
+use fallible::kinds::RIGHT_NOT_BOOLEAN;
+use fallible::kinds::UNKNOWN_IDENTIFIER;
 use literal::Parsed;
 use node::bytes::half;
 use node::bytes::length_at;
@@ -110,7 +123,17 @@ pub fn identifier(s: &[u8], work: &[u32], at: usize, errors: &mut [u32], state: 
 {
     let name = word(s, at + 20);
     let row = resolve_identifier(work, name);
-    let next = report_unless(row != 0, s, at, 10, name, 0, 0, errors, state);
+    let next = report_unless(
+        row != 0,
+        s,
+        at,
+        UNKNOWN_IDENTIFIER,
+        name,
+        0,
+        0,
+        errors,
+        state,
+    );
     Typed {
         ty: or_unknown(row),
         state: next,
@@ -132,7 +155,7 @@ pub fn integer(s: &[u8], at: usize, errors: &mut [u32], state: State) -> Typed
             state,
         },
         Parsed::Invalid => {
-            let error = convert::error_at(s, at, 23, 0, 0, 0);
+            let error = convert::error_at(s, at, LITERAL_OUT_OF_RANGE, 0, 0, 0);
             let next = state::report(errors, state, error);
             Typed {
                 ty: types::U16,
@@ -170,7 +193,7 @@ fn dereference(
     ensures { λ r. ⌜ Unary 40 (now (s .entry)) at ty (now (rows .entry)) (now (errors .entry)) state (now (rows .entry)) (now (errors .exit)) r ⌝ }
 {
     let holds = types::kind(rows, state.rows, ty) == types::POINTER;
-    let next = report_unless(holds, s, at, 16, ty, 0, 0, errors, state);
+    let next = report_unless(holds, s, at, NOT_A_POINTER, ty, 0, 0, errors, state);
     Typed {
         ty: part_of(rows, state.rows, types::POINTER, ty),
         state: next,
@@ -192,7 +215,7 @@ fn field_access(
     let name = word(s, at + 20);
     let bare = types::desugar(rows, state.rows, ty);
     if types::kind(rows, state.rows, bare) != types::STRUCT {
-        let error = convert::error_at(s, at, 17, ty, 0, 0);
+        let error = convert::error_at(s, at, NO_FIELDS, ty, 0, 0);
         let told = state::report(errors, state, error);
         return Typed {
             ty: types::UNKNOWN,
@@ -200,7 +223,7 @@ fn field_access(
         };
     }
     let field = types::field_named(rows, state.rows, bare, name);
-    let next = report_unless(field != 0, s, at, 18, ty, name, 0, errors, state);
+    let next = report_unless(field != 0, s, at, NO_SUCH_FIELD, ty, name, 0, errors, state);
     Typed {
         ty: or_unknown(field),
         state: next,
@@ -220,7 +243,7 @@ fn bitwise_not(
     ensures { λ r. ⌜ Unary 42 (now (s .entry)) at ty (now (rows .entry)) (now (errors .entry)) state (now (rows .entry)) (now (errors .exit)) r ⌝ }
 {
     let holds = relations::is_integral(types::kind(rows, state.rows, ty));
-    let next = report_unless(holds, s, at, 19, ty, 0, 0, errors, state);
+    let next = report_unless(holds, s, at, NO_BITWISE_NOT, ty, 0, 0, errors, state);
     Typed { ty, state: next }
 }
 
@@ -237,7 +260,7 @@ fn boolean_not(
     ensures { λ r. ⌜ Unary 43 (now (s .entry)) at ty (now (rows .entry)) (now (errors .entry)) state (now (rows .entry)) (now (errors .exit)) r ⌝ }
 {
     let holds = types::kind(rows, state.rows, ty) == types::BOOL;
-    let next = report_unless(holds, s, at, 20, ty, 0, 0, errors, state);
+    let next = report_unless(holds, s, at, NO_BOOLEAN_NOT, ty, 0, 0, errors, state);
     Typed { ty, state: next }
 }
 
@@ -278,7 +301,7 @@ fn index(
     ensures { λ r. ⌜ Binary 37 (now (s .entry)) at left place right (now (rows .entry)) (now (errors .entry)) state (now (errors .exit)) r ⌝ }
 {
     let holds = types::kind(rows, state.rows, right) == types::U16;
-    let next = report_unless(holds, s, place, 14, right, 0, 0, errors, state);
+    let next = report_unless(holds, s, place, NOT_AN_INDEX, right, 0, 0, errors, state);
     Typed {
         ty: part_of(rows, state.rows, types::ARRAY, left),
         state: next,
@@ -301,8 +324,28 @@ fn boolean_and(
 {
     let left_holds = types::kind(rows, state.rows, left) == types::BOOL;
     let right_holds = types::kind(rows, state.rows, right) == types::BOOL;
-    let next = report_unless(left_holds, s, at, 21, left, 0, 0, errors, state);
-    let last = report_unless(right_holds, s, at, 22, right, 0, 0, errors, next);
+    let next = report_unless(
+        left_holds,
+        s,
+        at,
+        LEFT_NOT_BOOLEAN,
+        left,
+        0,
+        0,
+        errors,
+        state,
+    );
+    let last = report_unless(
+        right_holds,
+        s,
+        at,
+        RIGHT_NOT_BOOLEAN,
+        right,
+        0,
+        0,
+        errors,
+        next,
+    );
     Typed {
         ty: left,
         state: last,
@@ -341,7 +384,17 @@ fn arithmetic(
     let l = types::desugar(rows, state.rows, left);
     let r = types::desugar(rows, state.rows, right);
     let holds = computes(rows, state.rows, l, r);
-    let next = report_unless(holds, s, at, 24, operator, l, r, errors, state);
+    let next = report_unless(
+        holds,
+        s,
+        at,
+        INCOMPATIBLE_OPERANDS,
+        operator,
+        l,
+        r,
+        errors,
+        state,
+    );
     Typed { ty: l, state: next }
 }
 
@@ -389,7 +442,7 @@ pub fn cast(
     ensures { λ r. ⌜ Cast (now (s .entry)) at source target (now (rows .entry)) (now (errors .entry)) state (now (errors .exit)) r ⌝ }
 {
     let holds = relations::is_castable_to(rows, state.rows, source, target);
-    report_unless(holds, s, at, 15, source, target, 0, errors, state)
+    report_unless(holds, s, at, NOT_CASTABLE, source, target, 0, errors, state)
 }
 
 // A value of the type row `source` for a place of the type row `target`, at the record at `at`.
@@ -406,5 +459,15 @@ pub fn check_types_are_assignable(
     ensures { λ r. ⌜ CheckAssignable (now (s .entry)) at target source (now (rows .entry)) (now (errors .entry)) state (now (errors .exit)) r ⌝ }
 {
     let holds = relations::types_are_assignable(rows, state.rows, target, source);
-    report_unless(holds, s, at, 8, target, source, 0, errors, state)
+    report_unless(
+        holds,
+        s,
+        at,
+        NOT_ASSIGNABLE,
+        target,
+        source,
+        0,
+        errors,
+        state,
+    )
 }

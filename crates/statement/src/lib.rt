@@ -5,6 +5,8 @@ use convert::error_at;
 use divergence::Inner;
 use divergence::inner_statements;
 use expression::type_check_expression;
+use fallible::kinds::LOCAL_REDEFINED;
+use fallible::kinds::RETURN_NEEDS_VALUE;
 use node::bytes::length_at;
 use node::bytes::word;
 use node::names::BuiltIns;
@@ -30,11 +32,6 @@ ghost use Rattle.statement.specs.Post.{StatementCheckedAt, CheckedForAny
 const PARTS: usize = 16;
 
 const NAMED_PARTS: usize = 20;
-
-// Errors: a local of that name is there already; a return needs a value.
-const LOCAL_REDEFINED: u32 = 7;
-
-const RETURN_NEEDS_VALUE: u32 = 9;
 
 // Enters a local of the type row `ty`, unless there is one of that name already. Its value is compared with `ty` either way.
 fn declare_local(
