@@ -157,6 +157,10 @@ pub record Walking (n : ℕ) (s : List ℕ) (d from end : ℕ) (st₀ : Holds) (
 pub walk-start : (n : ℕ) (s : List ℕ) (d from end : ℕ) (st : Holds) → from ≤ end → Walking n s d from end st from st
 walk-start n s d from end st p = record { inside = p; rest = λ m q. record { left = m; enough = q; same = refl } }
 
+-- a list that is complete at its start
+walked-at-once : (n : ℕ) (s : List ℕ) (d from end : ℕ) (st : Holds) (due : Due) → due ≡ dueIn st → (b : Bool) → b ≡ isDone due from end → b ≡ true → Walked n s d from end st Good
+walked-at-once n s d from end st due ed b eb p = record { is = λ m q. simp (list-step (recordAt n s d) s m from end st (omega arith), ← ed, ← eb, p) }
+
 module _ (n : ℕ) (s : List ℕ) (d from end : ℕ) (st₀ : Holds) (at : ℕ) (st : Holds) (w : Walking n s d from end st₀ at st) where
   walk-exit : (r : Layout) → ((m : ℕ) → end - at < m → r ≡ listAt (recordAt n s d) s m at end st) → Walked n s d from end st₀ r
   walk-exit r f = record { is = λ m q. f (w .rest m q .left) (w .rest m q .enough) ∙ sym (w .rest m q .same) }
@@ -209,6 +213,10 @@ module _ (n : ℕ) (s : List ℕ) (d from end : ℕ) (st₀ : Holds) (at : ℕ) 
                         same = v .same ∙ simp (list-step (recordAt n s d) s f at end st (omega arith), ← ed, ← eb, p, ne-eqb _ _ z, in-record, g, ← y .stops, ← y .after);
                       };
                 }
+
+          pub walk-past : (start stop : ℕ) (hs nx : Holds) → h ≡ Body start stop hs nx → (due₁ : Due) → due₁ ≡ dueIn hs → (b₁ : Bool) → b₁ ≡ isDone due₁ start stop → b₁ ≡ true
+              → end ≤ length s → Walking n s d from end st₀ stop nx
+          walk-past start stop hs nx e due₁ e₁ b₁ eb₁ p₁ le = walk-on start stop hs nx e Good (walked-at-once n s (d - 1) start stop hs due₁ e₁ b₁ eb₁ p₁) le refl
 
 module _ (s : List ℕ) where
   pub layout-long : maxBytes < length s → TooLong ≡ layoutOf s

@@ -105,6 +105,12 @@ fn walk_list(s: &[u8], names: u32, from: usize, end: usize, depth: usize, holds:
         match head {
             Head::Wrong(place) => return Layout::Fault(place),
             Head::Body(start, stop, inner, next) => {
+                // most records hold no other: no call for those
+                if is_done(due_in(inner), start, stop) {
+                    at = stop;
+                    state = next;
+                    continue;
+                }
                 let layout = walk_list(s, names, start, stop, depth - 1, inner);
                 match layout {
                     Layout::Good => {

@@ -1,12 +1,14 @@
 -- The list of records at a kind. Assumes nothing.
 use Prim.Native.Nat.{ℕ, zero, suc, _+_, _≤_, _<_}
-use mathlib.Core.Path.{_≡_, refl, sym, _∙_, ap}
+use mathlib.Core.Path.{_≡_, refl, sym, _∙_, ap, subst}
 use mathlib.Core.Bool.{Bool, true, false, not, _&&_, _||_}
 use mathlib.Core.List.{List, [], _∷_}
-use lib.Dec.{leb, ltb, eqb}
-use lib.ListN.{length, getD}
+use mathlib.Core.Logic.{inl, inr}
+use lib.Dec.{T, leb, ltb, eqb}
+use mir.Val.{hasKey}
+use types.Run.{OneOf, hit}
 use native.Mathlib.Omega.{arith}
-use borrow.Author.Tests.{leb-true, leb-false, ltb-true, eqb-true, eq-eqb, ne-eqb}
+use borrow.Author.Tests.{leb-true, leb-false, ltb-true, eqb-true, eqb-false, eq-eqb, ne-eqb}
 use Rattle.shape.specs.Shape.{pick, noField, lookUp, shapes, shapeOf, Shaped, unlisted, aModule, aType, anExpression, aCompound, aStatement, anItem}
 use Rattle.shape.specs.declared.Shape.{Shape}
 use Rattle.shape.specs.declared.Holds.the-variants.{Nothing}
@@ -98,29 +100,64 @@ module _ {r : Shape} (k : ℕ) (d : r ≡ noField unlisted Nothing) where
   unfolding clear
   above-84 o p q = unlisted-kind 86 4294967296 k refl (past 85 1 k p o) q d
 
--- A list has the numbers of fields of the kinds from `low` on
-abbrev pub allCounted : (low : ℕ) → List ℕ → Bool
-allCounted low [] = true
-allCounted low (n ∷ ns) = eqb n (shapeOf low .fields) && allCounted (suc low) ns
+-- How many fields a kind has: the code has arms with single kinds, and ranges for the others
+abbrev allHave : (n : ℕ) → List ℕ → Bool
+allHave n [] = true
+allHave n (j ∷ js) = eqb n (shapeOf j .fields) && allHave n js
 
-counted : (low : ℕ) (ns : List ℕ) (i k : ℕ) → allCounted low ns ≡ true → i < length ns → low + i ≡ k → getD ns i 0 ≡ shapeOf k .fields
-counted low [] i k e p q = absurd (omega arith)
-counted low (n ∷ ns) zero k e p q =
-    eqb-true _ _ (and-both (eqb n (shapeOf low .fields)) (allCounted (suc low) ns) e .0) ∙ ap (λ j. shapeOf j .fields) (omega arith)
-counted low (n ∷ ns) (suc i) k e p q =
-    counted (suc low) ns i k (and-both (eqb n (shapeOf low .fields)) (allCounted (suc low) ns) e .1) (omega arith) (omega arith)
+pub single-kind : (n : ℕ) (js : List ℕ) (k : ℕ) → allHave n js ≡ true → OneOf js k → n ≡ shapeOf k .fields
+single-kind n [] k e o = absurd o
+single-kind n (j ∷ []) k e o = eqb-true _ _ (and-both (eqb n (shapeOf j .fields)) true e .0) ∙ ap (λ i. shapeOf i .fields) (sym o)
+single-kind n (j ∷ i ∷ js) k e (inl o) = eqb-true _ _ (and-both (eqb n (shapeOf j .fields)) (allHave n (i ∷ js)) e .0) ∙ ap (λ x. shapeOf x .fields) (sym o)
+single-kind n (j ∷ i ∷ js) k e (inr o) = single-kind n (i ∷ js) k (and-both (eqb n (shapeOf j .fields)) (allHave n (i ∷ js)) e .1) o
 
--- The numbers of fields of the kinds 0 to 85, as the code has them
-abbrev pub fieldCounts : List ℕ
-fieldCounts = 0 ∷ 0 ∷ 0 ∷ 0 ∷ 0 ∷ 0 ∷ 0 ∷ 0 ∷ 0 ∷ 0 ∷ 0 ∷ 0 ∷ 0 ∷ 0 ∷ 0 ∷ 0 ∷ 2 ∷ 1 ∷ 1 ∷ 2 ∷ 1 ∷ 1 ∷ 0 ∷ 0 ∷ 0 ∷ 0 ∷ 0 ∷ 0 ∷ 0 ∷ 0 ∷ 0 ∷ 0 ∷ 2 ∷ 2 ∷ 2 ∷ 1 ∷ 1 ∷ 1 ∷ 1 ∷ 1 ∷ 1 ∷ 2 ∷ 1 ∷ 1 ∷ 1 ∷ 2 ∷ 2 ∷ 1 ∷ 0 ∷ 0 ∷ 1 ∷ 0 ∷ 0 ∷ 0 ∷ 0 ∷ 0 ∷ 0 ∷ 0 ∷ 0 ∷ 0 ∷ 0 ∷ 0 ∷ 0 ∷ 0 ∷ 1 ∷ 0 ∷ 1 ∷ 0 ∷ 0 ∷ 0 ∷ 0 ∷ 0 ∷ 0 ∷ 0 ∷ 0 ∷ 0 ∷ 0 ∷ 0 ∷ 0 ∷ 0 ∷ 1 ∷ 2 ∷ 0 ∷ 1 ∷ 0 ∷ 1 ∷ []
+-- the single kinds with two fields, and those with one
+abbrev pub twos : List ℕ
+twos = 16 ∷ 19 ∷ 41 ∷ 81 ∷ []
 
-pub field-counted : (k : ℕ) → k ≤ 85 → (getD fieldCounts k 0 ≡ shapeOf k .fields) × (getD fieldCounts k 0 ≤ 2)
-unfolding shapeOf allFew
-field-counted k p = let q = counted 0 fieldCounts k k refl (omega arith) (omega arith) in (q, rw q (few shapes k refl))
+abbrev pub ones : List ℕ
+ones = 47 ∷ 50 ∷ 64 ∷ 66 ∷ 80 ∷ 83 ∷ 85 ∷ []
 
-pub field-beyond : (k : ℕ) → 85 < k → k < 4294967296 → (0 ≡ shapeOf k .fields) × (0 ≤ 2)
+-- the other of the m kinds from `low` have n fields
+abbrev others : (n low m : ℕ) → Bool
+others n low zero = true
+others n low (suc m) = (hasKey twos (low + m) || (hasKey ones (low + m) || eqb n (shapeOf (low + m) .fields))) && others n low m
+
+module _ (k : ℕ) (a : OneOf twos k → ⊥) (b : OneOf ones k → ⊥) where
+  neither : (n j : ℕ) → k ≡ j → hasKey twos j || (hasKey ones j || eqb n (shapeOf j .fields)) ≡ true → n ≡ shapeOf k .fields
+  neither n j q e = go (hasKey twos j) refl (hasKey ones j) refl e
+    where
+      there : (js : List ℕ) → hasKey js j ≡ true → OneOf js k
+      there js f = hit js k (subst T (sym f ∙ ap (hasKey js) (sym q)) tt)
+
+      go : (x : Bool) → hasKey twos j ≡ x → (y : Bool) → hasKey ones j ≡ y → x || (y || eqb n (shapeOf j .fields)) ≡ true → n ≡ shapeOf k .fields
+      go true f y g h = absurd (a (there twos f))
+      go false f true g h = absurd (b (there ones g))
+      go false f false g h = eqb-true _ _ h ∙ ap (λ i. shapeOf i .fields) (sym q)
+
+  pub other-kind : (n low m : ℕ) → others n low m ≡ true → low ≤ k → k < low + m → n ≡ shapeOf k .fields
+  other-kind n low zero e p q = absurd (omega arith)
+  other-kind n low (suc m) e p q =
+      let s = and-both (hasKey twos (low + m) || (hasKey ones (low + m) || eqb n (shapeOf (low + m) .fields))) (others n low m) e in
+      go (eqb k (low + m)) refl (neither n (low + m)) (s .0) (other-kind n low m (s .1) p)
+    where
+      go : (x : Bool) → eqb k (low + m) ≡ x → (k ≡ low + m → hasKey twos (low + m) || (hasKey ones (low + m) || eqb n (shapeOf (low + m) .fields)) ≡ true → n ≡ shapeOf k .fields)
+          → hasKey twos (low + m) || (hasKey ones (low + m) || eqb n (shapeOf (low + m) .fields)) ≡ true → (k < low + m → n ≡ shapeOf k .fields) → n ≡ shapeOf k .fields
+      go true f here h below = here (eqb-true _ _ f) h
+      go false f here h below = let d = eqb-false k (low + m) f in below (omega (arith, d))
+
+kind-beyond : (k : ℕ) → 85 < k → k < 4294967296 → 0 ≡ shapeOf k .fields
 unfolding shapeOf clear
-field-beyond k p q = (ap (λ r. r .fields) (absent 86 4294967296 k shapes refl p q), omega arith)
+kind-beyond k p q = ap (λ r. r .fields) (absent 86 4294967296 k shapes refl p q)
+
+-- the last range has no end in the list
+pub kind-past : (k : ℕ) → (OneOf twos k → ⊥) → (OneOf ones k → ⊥) → 47 ≤ k → k < 4294967296 → 0 ≡ shapeOf k .fields
+unfolding shapeOf
+kind-past k a b p q = go (leb 86 k) refl
+  where
+    go : (x : Bool) → leb 86 k ≡ x → 0 ≡ shapeOf k .fields
+    go true f = kind-beyond k (leb-true 86 k f) q
+    go false f = let l = leb-false 86 k f in other-kind k a b 0 47 39 refl p (omega arith)
 
 -- The kinds of a class: every shape of a list that has the class stands at a kind from `low` to `high`
 abbrev pub allWithin : (c low high : ℕ) → List (ℕ × Shape) → Bool

@@ -245,25 +245,15 @@ pub fn shape_of(kind: u32) -> Shape
     }
 }
 
-// How many fields the kinds 0 to 85 have, sixteen kinds a line.
-#[rattlefmt::skip]
-const FIELD_COUNTS: [u8; 86] = [
-    0, 0, 0, 0, 0, 0, 0, 0, 0, 0, 0, 0, 0, 0, 0, 0,
-    2, 1, 1, 2, 1, 1, 0, 0, 0, 0, 0, 0, 0, 0, 0, 0,
-    2, 2, 2, 1, 1, 1, 1, 1, 1, 2, 1, 1, 1, 2, 2, 1,
-    0, 0, 1, 0, 0, 0, 0, 0, 0, 0, 0, 0, 0, 0, 0, 0,
-    1, 0, 1, 0, 0, 0, 0, 0, 0, 0, 0, 0, 0, 0, 0, 0,
-    1, 2, 0, 1, 0, 1,
-];
-
 // How many fields a kind has: less work than its whole shape.
 pub fn field_count(kind: u32) -> usize
     ensures { λ r. ⌜ (r ≡ shapeOf kind .fields) × (r ≤ 2) ⌝ }
 {
-    if PARAMETER < kind {
-        return 0;
+    match kind {
+        16 | 19 | 32..=34 | 41 | 45 | 46 | 81 => 2,
+        17 | 18 | 20 | 21 | 35..=40 | 42..=44 | 47 | 50 | 64 | 66 | 80 | 83 | 85 => 1,
+        _ => 0,
     }
-    FIELD_COUNTS[kind as usize] as usize
 }
 
 // Nothing more.
