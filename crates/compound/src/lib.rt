@@ -35,11 +35,12 @@ fn type_check_fields(
     output: &mut [u8],
     errors: &mut [u32],
     rows: &mut [u32],
+    buckets: &mut [u16; lookup::LENGTH],
     state: State,
 ) -> State
     requires { ⌜ FineList (now s) depth from end CompoundFields ⌝ }
-    requires { ⌜ Ready (now s) (lent (now work) (now output) (now errors) (now rows) state) ⌝ }
-    ensures { λ r. ⌜ CarriedFields (now (s .entry)) names (compoundFieldsAt (now (s .entry)) depth from end) from end (lent (now (work .entry)) (now (output .entry)) (now (errors .entry)) (now (rows .entry)) state) (lent (now (work .entry)) (now (output .exit)) (now (errors .exit)) (now (rows .exit)) r) ⌝ }
+    requires { ⌜ Ready (now s) (lent (now work) (now output) (now errors) (now rows) (now buckets) state) ⌝ }
+    ensures { λ r. ⌜ CarriedFields (now (s .entry)) names (compoundFieldsAt (now (s .entry)) depth from end) from end (lent (now (work .entry)) (now (output .entry)) (now (errors .entry)) (now (rows .entry)) (now (buckets .entry)) state) (lent (now (work .entry)) (now (output .exit)) (now (errors .exit)) (now (rows .exit)) (now (buckets .exit)) r) ⌝ }
 {
     let mut at = from;
     let mut next = state;
@@ -54,6 +55,7 @@ fn type_check_fields(
             output,
             errors,
             rows,
+            buckets,
             next,
         );
         next = typed.state;
@@ -73,11 +75,12 @@ pub fn type_check_compound_assignment(
     output: &mut [u8],
     errors: &mut [u32],
     rows: &mut [u32],
+    buckets: &mut [u16; lookup::LENGTH],
     state: State,
 ) -> State
     requires { ⌜ FineRecord (now s) depth at (length (now s)) aCompound ⌝ }
-    requires { ⌜ Ready (now s) (lent (now work) (now output) (now errors) (now rows) state) × OneType (now rows) (state .rows) target ⌝ }
-    ensures { λ r. ⌜ CompoundCheckedAt (now (s .entry)) names depth at target (lent (now (work .entry)) (now (output .entry)) (now (errors .entry)) (now (rows .entry)) state) (lent (now (work .entry)) (now (output .exit)) (now (errors .exit)) (now (rows .exit)) r) ⌝ }
+    requires { ⌜ Ready (now s) (lent (now work) (now output) (now errors) (now rows) (now buckets) state) × OneType (now rows) (state .rows) target ⌝ }
+    ensures { λ r. ⌜ CompoundCheckedAt (now (s .entry)) names depth at target (lent (now (work .entry)) (now (output .entry)) (now (errors .entry)) (now (rows .entry)) (now (buckets .entry)) state) (lent (now (work .entry)) (now (output .exit)) (now (errors .exit)) (now (rows .exit)) (now (buckets .exit)) r) ⌝ }
 {
     let head = enter(s, at, s.len(), depth, COMPOUND);
     let kind = head.kind;
@@ -95,6 +98,7 @@ pub fn type_check_compound_assignment(
             output,
             errors,
             rows,
+            buckets,
             state,
         );
         return lists::array_compound(s, at, target, start, stop, output, errors, rows, next);
@@ -109,6 +113,7 @@ pub fn type_check_compound_assignment(
         output,
         errors,
         rows,
+        buckets,
         state,
     );
     let last = fields::struct_compound(s, at, target, start, stop, output, errors, rows, next);

@@ -11,6 +11,7 @@ use types::Row;
 ghost use mathlib.Core.Path.{_≡_};
 ghost use Prim.Native.Nat.{_+_, _*_, _<_, _≤_};
 ghost use lib.ListN.{length};
+ghost use Rattle.lookup.specs.Buckets.{Indexed};
 ghost use Rattle.types.specs.Table.{Table};
 ghost use Rattle.types.specs.Post.{PartsOk};
 ghost use Rattle.shape.specs.Shape.{aType};
@@ -138,14 +139,16 @@ fn settle_row(
     fill: bool,
     output: &mut [u8],
     rows: &mut [u32],
+    buckets: &mut [u16; lookup::LENGTH],
     state: State,
     row: Row,
 ) -> Typed
     requires { ⌜ slotEnd at ≤ length (now output) ⌝ }
     requires { ⌜ Table (now rows) (state .rows) × PartsOk (now rows) (state .rows) row ⌝ }
-    ensures { λ r. ⌜ RowSettled row at fill (now (output .entry)) (now (rows .entry)) state (now (output .exit)) (now (rows .exit)) r ⌝ }
+    requires { ⌜ Indexed (now rows) (state .rows) (now buckets) ⌝ }
+    ensures { λ r. ⌜ RowSettled row at fill (now (output .entry)) (now (rows .entry)) (now (buckets .entry)) state (now (output .exit)) (now (rows .exit)) (now (buckets .exit)) r ⌝ }
 {
-    let made = state::make(rows, state, row);
+    let made = state::make(rows, buckets, state, row);
     settle(at, fill, output, made.ty);
     made
 }
@@ -181,11 +184,12 @@ pub fn convert_node_type(
     output: &mut [u8],
     errors: &mut [u32],
     rows: &mut [u32],
+    buckets: &mut [u16; lookup::LENGTH],
     state: State,
 ) -> Typed
     requires { ⌜ FineRecord (now s) depth at (length (now s)) aType ⌝ }
-    requires { ⌜ Ready (now s) (lent (now work) (now output) (now errors) (now rows) state) ⌝ }
-    ensures { λ r. ⌜ ConvertedAt (now (s .entry)) pass depth at (lent (now (work .entry)) (now (output .entry)) (now (errors .entry)) (now (rows .entry)) state) (lent (now (work .entry)) (now (output .exit)) (now (errors .exit)) (now (rows .exit)) (r .state)) (r .ty) ⌝ }
+    requires { ⌜ Ready (now s) (lent (now work) (now output) (now errors) (now rows) (now buckets) state) ⌝ }
+    ensures { λ r. ⌜ ConvertedAt (now (s .entry)) pass depth at (lent (now (work .entry)) (now (output .entry)) (now (errors .entry)) (now (rows .entry)) (now (buckets .entry)) state) (lent (now (work .entry)) (now (output .exit)) (now (errors .exit)) (now (rows .exit)) (now (buckets .exit)) (r .state)) (r .ty) ⌝ }
 {
     let kind = type_kind(s, at, depth);
     let fill = pass.fill;
@@ -203,9 +207,42 @@ pub fn convert_node_type(
                 state,
             }
         }
-        POINTER => convert_pointer(s, pass, work, at, depth, output, errors, rows, state),
-        ARRAY => convert_array(s, pass, work, at, depth, output, errors, rows, state),
-        _ => convert_struct(s, pass, work, at, depth, output, errors, rows, state),
+        POINTER => convert_pointer(
+            s,
+            pass,
+            work,
+            at,
+            depth,
+            output,
+            errors,
+            rows,
+            buckets,
+            state,
+        ),
+        ARRAY => convert_array(
+            s,
+            pass,
+            work,
+            at,
+            depth,
+            output,
+            errors,
+            rows,
+            buckets,
+            state,
+        ),
+        _ => convert_struct(
+            s,
+            pass,
+            work,
+            at,
+            depth,
+            output,
+            errors,
+            rows,
+            buckets,
+            state,
+        ),
     }
 }
 
@@ -219,12 +256,13 @@ fn convert_pointer(
     output: &mut [u8],
     errors: &mut [u32],
     rows: &mut [u32],
+    buckets: &mut [u16; lookup::LENGTH],
     state: State,
 ) -> Typed
     requires { ⌜ FineRecord (now s) depth at (length (now s)) aType ⌝ }
     requires { ⌜ kindAt (now s) at ≡ 18 ⌝ }
-    requires { ⌜ Ready (now s) (lent (now work) (now output) (now errors) (now rows) state) ⌝ }
-    ensures { λ r. ⌜ ConvertedAt (now (s .entry)) pass depth at (lent (now (work .entry)) (now (output .entry)) (now (errors .entry)) (now (rows .entry)) state) (lent (now (work .entry)) (now (output .exit)) (now (errors .exit)) (now (rows .exit)) (r .state)) (r .ty) ⌝ }
+    requires { ⌜ Ready (now s) (lent (now work) (now output) (now errors) (now rows) (now buckets) state) ⌝ }
+    ensures { λ r. ⌜ ConvertedAt (now (s .entry)) pass depth at (lent (now (work .entry)) (now (output .entry)) (now (errors .entry)) (now (rows .entry)) (now (buckets .entry)) state) (lent (now (work .entry)) (now (output .exit)) (now (errors .exit)) (now (rows .exit)) (now (buckets .exit)) (r .state)) (r .ty) ⌝ }
 {
     let pointee = convert_node_type(
         s,
@@ -235,10 +273,19 @@ fn convert_pointer(
         output,
         errors,
         rows,
+        buckets,
         state,
     );
     let next = pointee.state;
-    settle_row(at, pass.fill, output, rows, next, Row::Pointer(pointee.ty))
+    settle_row(
+        at,
+        pass.fill,
+        output,
+        rows,
+        buckets,
+        next,
+        Row::Pointer(pointee.ty),
+    )
 }
 
 // The row of an array, after its element.
@@ -251,12 +298,13 @@ fn convert_array(
     output: &mut [u8],
     errors: &mut [u32],
     rows: &mut [u32],
+    buckets: &mut [u16; lookup::LENGTH],
     state: State,
 ) -> Typed
     requires { ⌜ FineRecord (now s) depth at (length (now s)) aType ⌝ }
     requires { ⌜ kindAt (now s) at ≡ 19 ⌝ }
-    requires { ⌜ Ready (now s) (lent (now work) (now output) (now errors) (now rows) state) ⌝ }
-    ensures { λ r. ⌜ ConvertedAt (now (s .entry)) pass depth at (lent (now (work .entry)) (now (output .entry)) (now (errors .entry)) (now (rows .entry)) state) (lent (now (work .entry)) (now (output .exit)) (now (errors .exit)) (now (rows .exit)) (r .state)) (r .ty) ⌝ }
+    requires { ⌜ Ready (now s) (lent (now work) (now output) (now errors) (now rows) (now buckets) state) ⌝ }
+    ensures { λ r. ⌜ ConvertedAt (now (s .entry)) pass depth at (lent (now (work .entry)) (now (output .entry)) (now (errors .entry)) (now (rows .entry)) (now (buckets .entry)) state) (lent (now (work .entry)) (now (output .exit)) (now (errors .exit)) (now (rows .exit)) (now (buckets .exit)) (r .state)) (r .ty) ⌝ }
 {
     let size = word(s, at + 20);
     let element = convert_node_type(
@@ -268,6 +316,7 @@ fn convert_array(
         output,
         errors,
         rows,
+        buckets,
         state,
     );
     let next = element.state;
@@ -276,6 +325,7 @@ fn convert_array(
         pass.fill,
         output,
         rows,
+        buckets,
         next,
         Row::Array {
             element: element.ty,
@@ -294,12 +344,13 @@ fn convert_struct(
     output: &mut [u8],
     errors: &mut [u32],
     rows: &mut [u32],
+    buckets: &mut [u16; lookup::LENGTH],
     state: State,
 ) -> Typed
     requires { ⌜ FineRecord (now s) depth at (length (now s)) aType ⌝ }
     requires { ⌜ kindAt (now s) at ≡ 20 ⌝ }
-    requires { ⌜ Ready (now s) (lent (now work) (now output) (now errors) (now rows) state) ⌝ }
-    ensures { λ r. ⌜ ConvertedAt (now (s .entry)) pass depth at (lent (now (work .entry)) (now (output .entry)) (now (errors .entry)) (now (rows .entry)) state) (lent (now (work .entry)) (now (output .exit)) (now (errors .exit)) (now (rows .exit)) (r .state)) (r .ty) ⌝ }
+    requires { ⌜ Ready (now s) (lent (now work) (now output) (now errors) (now rows) (now buckets) state) ⌝ }
+    ensures { λ r. ⌜ ConvertedAt (now (s .entry)) pass depth at (lent (now (work .entry)) (now (output .entry)) (now (errors .entry)) (now (rows .entry)) (now (buckets .entry)) state) (lent (now (work .entry)) (now (output .exit)) (now (errors .exit)) (now (rows .exit)) (now (buckets .exit)) (r .state)) (r .ty) ⌝ }
 {
     let stop = at + length_at(s, at);
     let fields = convert_fields(
@@ -312,10 +363,19 @@ fn convert_struct(
         output,
         errors,
         rows,
+        buckets,
         state,
     );
     let next = fields.state;
-    settle_row(at, pass.fill, output, rows, next, Row::Struct(fields.ty))
+    settle_row(
+        at,
+        pass.fill,
+        output,
+        rows,
+        buckets,
+        next,
+        Row::Struct(fields.ty),
+    )
 }
 
 // The cells of the fields from `from` to `end`, made from the last to the first.
@@ -329,11 +389,12 @@ fn convert_fields(
     output: &mut [u8],
     errors: &mut [u32],
     rows: &mut [u32],
+    buckets: &mut [u16; lookup::LENGTH],
     state: State,
 ) -> Typed
     requires { ⌜ FineList (now s) depth from end Fields ⌝ }
-    requires { ⌜ Ready (now s) (lent (now work) (now output) (now errors) (now rows) state) ⌝ }
-    ensures { λ r. ⌜ FieldsConvertedAt (now (s .entry)) pass depth from end (lent (now (work .entry)) (now (output .entry)) (now (errors .entry)) (now (rows .entry)) state) (lent (now (work .entry)) (now (output .exit)) (now (errors .exit)) (now (rows .exit)) (r .state)) (r .ty) ⌝ }
+    requires { ⌜ Ready (now s) (lent (now work) (now output) (now errors) (now rows) (now buckets) state) ⌝ }
+    ensures { λ r. ⌜ FieldsConvertedAt (now (s .entry)) pass depth from end (lent (now (work .entry)) (now (output .entry)) (now (errors .entry)) (now (rows .entry)) (now (buckets .entry)) state) (lent (now (work .entry)) (now (output .exit)) (now (errors .exit)) (now (rows .exit)) (now (buckets .exit)) (r .state)) (r .ty) ⌝ }
 {
     if end <= from {
         return Typed { ty: 0, state };
@@ -348,6 +409,7 @@ fn convert_fields(
         output,
         errors,
         rows,
+        buckets,
         state,
     );
     let next = field.state;
@@ -361,11 +423,13 @@ fn convert_fields(
         output,
         errors,
         rows,
+        buckets,
         next,
     );
     let last = rest.state;
     state::make(
         rows,
+        buckets,
         last,
         Row::Field {
             ty: field.ty,

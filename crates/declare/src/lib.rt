@@ -14,6 +14,7 @@ use types::Row;
 ghost use mathlib.Core.Path.{_≡_};
 ghost use Prim.Native.Nat.{_+_, _-_, _*_, _<_, _≤_};
 ghost use lib.ListN.{length};
+ghost use Rattle.lookup.specs.Buckets.{Indexed};
 ghost use Rattle.types.specs.Table.{Table, IsType};
 ghost use Rattle.shape.specs.Shape.{anItem};
 ghost use Rattle.shape.specs.declared.Holds.the-variants.{Parameters, Items};
@@ -68,11 +69,12 @@ fn convert_parameters(
     output: &mut [u8],
     errors: &mut [u32],
     rows: &mut [u32],
+    buckets: &mut [u16; lookup::LENGTH],
     state: State,
 ) -> Typed
     requires { ⌜ FineList (now s) depth from end Parameters ⌝ }
-    requires { ⌜ Ready (now s) (lent (now work) (now output) (now errors) (now rows) state) ⌝ }
-    ensures { λ r. ⌜ ParametersConverted (now (s .entry)) names (parametersAt (now (s .entry)) depth from end) from end (lent (now (work .entry)) (now (output .entry)) (now (errors .entry)) (now (rows .entry)) state) (lent (now (work .entry)) (now (output .exit)) (now (errors .exit)) (now (rows .exit)) (r .state)) (r .ty) ⌝ }
+    requires { ⌜ Ready (now s) (lent (now work) (now output) (now errors) (now rows) (now buckets) state) ⌝ }
+    ensures { λ r. ⌜ ParametersConverted (now (s .entry)) names (parametersAt (now (s .entry)) depth from end) from end (lent (now (work .entry)) (now (output .entry)) (now (errors .entry)) (now (rows .entry)) (now (buckets .entry)) state) (lent (now (work .entry)) (now (output .exit)) (now (errors .exit)) (now (rows .exit)) (now (buckets .exit)) (r .state)) (r .ty) ⌝ }
 {
     let next = parameter_end(s, from, end, depth);
     if next < 1 {
@@ -87,6 +89,7 @@ fn convert_parameters(
         output,
         errors,
         rows,
+        buckets,
         state,
     );
     let after = parameter.state;
@@ -100,11 +103,13 @@ fn convert_parameters(
         output,
         errors,
         rows,
+        buckets,
         after,
     );
     let last = rest.state;
     state::make(
         rows,
+        buckets,
         last,
         Row::Argument {
             ty: parameter.ty,
@@ -123,12 +128,13 @@ fn function_type(
     output: &mut [u8],
     errors: &mut [u32],
     rows: &mut [u32],
+    buckets: &mut [u16; lookup::LENGTH],
     state: State,
 ) -> Typed
     requires { ⌜ FineRecord (now s) depth at (length (now s)) anItem ⌝ }
     requires { ⌜ kindAt (now s) at ≡ 80 ⌝ }
-    requires { ⌜ Ready (now s) (lent (now work) (now output) (now errors) (now rows) state) ⌝ }
-    ensures { λ r. ⌜ FunctionConverted (now (s .entry)) names (typeAt (now (s .entry)) (depth - 1) (at + 20)) (parametersAt (now (s .entry)) (depth - 1) (stopAt (now (s .entry)) (at + 20)) (stopAt (now (s .entry)) at)) at (stopAt (now (s .entry)) at) (lent (now (work .entry)) (now (output .entry)) (now (errors .entry)) (now (rows .entry)) state) (lent (now (work .entry)) (now (output .exit)) (now (errors .exit)) (now (rows .exit)) (r .state)) (r .ty) ⌝ }
+    requires { ⌜ Ready (now s) (lent (now work) (now output) (now errors) (now rows) (now buckets) state) ⌝ }
+    ensures { λ r. ⌜ FunctionConverted (now (s .entry)) names (typeAt (now (s .entry)) (depth - 1) (at + 20)) (parametersAt (now (s .entry)) (depth - 1) (stopAt (now (s .entry)) (at + 20)) (stopAt (now (s .entry)) at)) at (stopAt (now (s .entry)) at) (lent (now (work .entry)) (now (output .entry)) (now (errors .entry)) (now (rows .entry)) (now (buckets .entry)) state) (lent (now (work .entry)) (now (output .exit)) (now (errors .exit)) (now (rows .exit)) (now (buckets .exit)) (r .state)) (r .ty) ⌝ }
 {
     let stop = at + length_at(s, at);
     let from = at + 20 + length_at(s, at + 20);
@@ -141,6 +147,7 @@ fn function_type(
         output,
         errors,
         rows,
+        buckets,
         state,
     );
     let after = returned.state;
@@ -154,11 +161,13 @@ fn function_type(
         output,
         errors,
         rows,
+        buckets,
         after,
     );
     let last = parameters.state;
     state::make(
         rows,
+        buckets,
         last,
         Row::Function {
             returned: returned.ty,
@@ -177,14 +186,26 @@ fn declare_function(
     output: &mut [u8],
     errors: &mut [u32],
     rows: &mut [u32],
+    buckets: &mut [u16; lookup::LENGTH],
     state: State,
 ) -> State
     requires { ⌜ FineRecord (now s) depth at (length (now s)) anItem ⌝ }
     requires { ⌜ kindAt (now s) at ≡ 80 ⌝ }
-    requires { ⌜ Ready (now s) (lent (now work) (now output) (now errors) (now rows) state) ⌝ }
-    ensures { λ r. ⌜ Declared (now (s .entry)) names (itemTreeAt (now (s .entry)) depth at) at (stopAt (now (s .entry)) at) (lent (now (work .entry)) (now (output .entry)) (now (errors .entry)) (now (rows .entry)) state) (lent (now (work .exit)) (now (output .exit)) (now (errors .exit)) (now (rows .exit)) r) ⌝ }
+    requires { ⌜ Ready (now s) (lent (now work) (now output) (now errors) (now rows) (now buckets) state) ⌝ }
+    ensures { λ r. ⌜ Declared (now (s .entry)) names (itemTreeAt (now (s .entry)) depth at) at (stopAt (now (s .entry)) at) (lent (now (work .entry)) (now (output .entry)) (now (errors .entry)) (now (rows .entry)) (now (buckets .entry)) state) (lent (now (work .exit)) (now (output .exit)) (now (errors .exit)) (now (rows .exit)) (now (buckets .exit)) r) ⌝ }
 {
-    let function = function_type(s, names, work, at, depth, output, errors, rows, state);
+    let function = function_type(
+        s,
+        names,
+        work,
+        at,
+        depth,
+        output,
+        errors,
+        rows,
+        buckets,
+        state,
+    );
     let name = word(s, at + 16);
     state::set_word(work, name, state::GLOBAL, function.ty);
     function.state
@@ -200,12 +221,13 @@ fn declare_variable(
     output: &mut [u8],
     errors: &mut [u32],
     rows: &mut [u32],
+    buckets: &mut [u16; lookup::LENGTH],
     state: State,
 ) -> State
     requires { ⌜ FineRecord (now s) depth at (length (now s)) anItem ⌝ }
     requires { ⌜ kindAt (now s) at ≡ 83 ⌝ }
-    requires { ⌜ Ready (now s) (lent (now work) (now output) (now errors) (now rows) state) ⌝ }
-    ensures { λ r. ⌜ Declared (now (s .entry)) names (itemTreeAt (now (s .entry)) depth at) at (stopAt (now (s .entry)) at) (lent (now (work .entry)) (now (output .entry)) (now (errors .entry)) (now (rows .entry)) state) (lent (now (work .exit)) (now (output .exit)) (now (errors .exit)) (now (rows .exit)) r) ⌝ }
+    requires { ⌜ Ready (now s) (lent (now work) (now output) (now errors) (now rows) (now buckets) state) ⌝ }
+    ensures { λ r. ⌜ Declared (now (s .entry)) names (itemTreeAt (now (s .entry)) depth at) at (stopAt (now (s .entry)) at) (lent (now (work .entry)) (now (output .entry)) (now (errors .entry)) (now (rows .entry)) (now (buckets .entry)) state) (lent (now (work .exit)) (now (output .exit)) (now (errors .exit)) (now (rows .exit)) (now (buckets .exit)) r) ⌝ }
 {
     let variable = convert::convert_node_type(
         s,
@@ -216,6 +238,7 @@ fn declare_variable(
         output,
         errors,
         rows,
+        buckets,
         state,
     );
     let name = word(s, at + 16);
@@ -273,12 +296,14 @@ fn store_alias(
     ty: u32,
     errors: &mut [u32],
     rows: &mut [u32],
+    buckets: &mut [u16; lookup::LENGTH],
     state: State,
 ) -> State
     requires { ⌜ NamesOne (now s) at ⌝ }
     requires { ⌜ workWidth * nameCount (now s) ≤ length (now work) ⌝ }
     requires { ⌜ Table (now rows) (state .rows) × IsType (now rows) (state .rows) ty ⌝ }
-    ensures { λ r. ⌜ AliasStored (now (s .entry)) names at distinct ty (now (work .entry)) (now (errors .entry)) (now (rows .entry)) state (now (work .exit)) (now (errors .exit)) (now (rows .exit)) r ⌝ }
+    requires { ⌜ Indexed (now rows) (state .rows) (now buckets) ⌝ }
+    ensures { λ r. ⌜ AliasStored (now (s .entry)) names at distinct ty (now (work .entry)) (now (errors .entry)) (now (rows .entry)) (now (buckets .entry)) state (now (work .exit)) (now (errors .exit)) (now (rows .exit)) (now (buckets .exit)) r ⌝ }
 {
     let name = word(s, at + 16);
     let earlier = state::word_of(work, name, state::ALIAS);
@@ -292,7 +317,7 @@ fn store_alias(
         return state::report(errors, state, error);
     }
     let row = alias_row(distinct, ty, name);
-    let alias = state::make(rows, state, row);
+    let alias = state::make(rows, buckets, state, row);
     state::set_word(work, name, state::ALIAS, alias.ty);
     alias.state
 }
@@ -307,12 +332,13 @@ fn declare_alias(
     output: &mut [u8],
     errors: &mut [u32],
     rows: &mut [u32],
+    buckets: &mut [u16; lookup::LENGTH],
     state: State,
 ) -> State
     requires { ⌜ FineRecord (now s) depth at (length (now s)) anItem ⌝ }
     requires { ⌜ kindAt (now s) at ≡ 81 ⌝ }
-    requires { ⌜ Ready (now s) (lent (now work) (now output) (now errors) (now rows) state) ⌝ }
-    ensures { λ r. ⌜ Declared (now (s .entry)) names (itemTreeAt (now (s .entry)) depth at) at (stopAt (now (s .entry)) at) (lent (now (work .entry)) (now (output .entry)) (now (errors .entry)) (now (rows .entry)) state) (lent (now (work .exit)) (now (output .exit)) (now (errors .exit)) (now (rows .exit)) r) ⌝ }
+    requires { ⌜ Ready (now s) (lent (now work) (now output) (now errors) (now rows) (now buckets) state) ⌝ }
+    ensures { λ r. ⌜ Declared (now (s .entry)) names (itemTreeAt (now (s .entry)) depth at) at (stopAt (now (s .entry)) at) (lent (now (work .entry)) (now (output .entry)) (now (errors .entry)) (now (rows .entry)) (now (buckets .entry)) state) (lent (now (work .exit)) (now (output .exit)) (now (errors .exit)) (now (rows .exit)) (now (buckets .exit)) r) ⌝ }
 {
     let flags = word(s, at + 20);
     let aliased = convert::convert_node_type(
@@ -324,6 +350,7 @@ fn declare_alias(
         output,
         errors,
         rows,
+        buckets,
         state,
     );
     let after = aliased.state;
@@ -339,6 +366,7 @@ fn declare_alias(
         aliased.ty,
         errors,
         rows,
+        buckets,
         after,
     )
 }
@@ -353,17 +381,51 @@ fn declare_item(
     output: &mut [u8],
     errors: &mut [u32],
     rows: &mut [u32],
+    buckets: &mut [u16; lookup::LENGTH],
     state: State,
 ) -> State
     requires { ⌜ FineRecord (now s) depth at (length (now s)) anItem ⌝ }
-    requires { ⌜ Ready (now s) (lent (now work) (now output) (now errors) (now rows) state) ⌝ }
-    ensures { λ r. ⌜ Declared (now (s .entry)) names (itemTreeAt (now (s .entry)) depth at) at (stopAt (now (s .entry)) at) (lent (now (work .entry)) (now (output .entry)) (now (errors .entry)) (now (rows .entry)) state) (lent (now (work .exit)) (now (output .exit)) (now (errors .exit)) (now (rows .exit)) r) ⌝ }
+    requires { ⌜ Ready (now s) (lent (now work) (now output) (now errors) (now rows) (now buckets) state) ⌝ }
+    ensures { λ r. ⌜ Declared (now (s .entry)) names (itemTreeAt (now (s .entry)) depth at) at (stopAt (now (s .entry)) at) (lent (now (work .entry)) (now (output .entry)) (now (errors .entry)) (now (rows .entry)) (now (buckets .entry)) state) (lent (now (work .exit)) (now (output .exit)) (now (errors .exit)) (now (rows .exit)) (now (buckets .exit)) r) ⌝ }
 {
     let kind = half(s, at + 4);
     match kind {
-        FUNCTION => declare_function(s, names, work, at, depth, output, errors, rows, state),
-        ALIAS => declare_alias(s, names, work, at, depth, output, errors, rows, state),
-        VARIABLE => declare_variable(s, names, work, at, depth, output, errors, rows, state),
+        FUNCTION => declare_function(
+            s,
+            names,
+            work,
+            at,
+            depth,
+            output,
+            errors,
+            rows,
+            buckets,
+            state,
+        ),
+        ALIAS => declare_alias(
+            s,
+            names,
+            work,
+            at,
+            depth,
+            output,
+            errors,
+            rows,
+            buckets,
+            state,
+        ),
+        VARIABLE => declare_variable(
+            s,
+            names,
+            work,
+            at,
+            depth,
+            output,
+            errors,
+            rows,
+            buckets,
+            state,
+        ),
         _ => state,
     }
 }
@@ -379,16 +441,28 @@ pub fn declare_items(
     output: &mut [u8],
     errors: &mut [u32],
     rows: &mut [u32],
+    buckets: &mut [u16; lookup::LENGTH],
     state: State,
 ) -> State
     requires { ⌜ FineList (now s) depth from end Items ⌝ }
-    requires { ⌜ Ready (now s) (lent (now work) (now output) (now errors) (now rows) state) ⌝ }
-    ensures { λ r. ⌜ AllDeclared (now (s .entry)) names (itemsAt (now (s .entry)) depth from end) from end (lent (now (work .entry)) (now (output .entry)) (now (errors .entry)) (now (rows .entry)) state) (lent (now (work .exit)) (now (output .exit)) (now (errors .exit)) (now (rows .exit)) r) ⌝ }
+    requires { ⌜ Ready (now s) (lent (now work) (now output) (now errors) (now rows) (now buckets) state) ⌝ }
+    ensures { λ r. ⌜ AllDeclared (now (s .entry)) names (itemsAt (now (s .entry)) depth from end) from end (lent (now (work .entry)) (now (output .entry)) (now (errors .entry)) (now (rows .entry)) (now (buckets .entry)) state) (lent (now (work .exit)) (now (output .exit)) (now (errors .exit)) (now (rows .exit)) (now (buckets .exit)) r) ⌝ }
 {
     let mut at = from;
     let mut last = state;
     while at < end {
-        last = declare_item(s, names, work, at, depth, output, errors, rows, last);
+        last = declare_item(
+            s,
+            names,
+            work,
+            at,
+            depth,
+            output,
+            errors,
+            rows,
+            buckets,
+            last,
+        );
         at += length_at(s, at);
     }
     last

@@ -55,11 +55,12 @@ fn leaf(
     output: &mut [u8],
     errors: &mut [u32],
     rows: &[u32],
+    buckets: &[u16; lookup::LENGTH],
     state: State,
 ) -> Typed
     requires { ⌜ FineRecord (now s) depth at (length (now s)) anExpression × (kind ≡ kindAt (now s) at) × (kind ≤ 35) ⌝ }
-    requires { ⌜ Ready (now s) (lent (now work) (now output) (now errors) (now rows) state) ⌝ }
-    ensures { λ r. ⌜ CarriedAt (now (s .entry)) names depth at (lent (now (work .entry)) (now (output .entry)) (now (errors .entry)) (now (rows .entry)) state) (lent (now (work .entry)) (now (output .exit)) (now (errors .exit)) (now (rows .entry)) (r .state)) (r .ty) ⌝ }
+    requires { ⌜ Ready (now s) (lent (now work) (now output) (now errors) (now rows) (now buckets) state) ⌝ }
+    ensures { λ r. ⌜ CarriedAt (now (s .entry)) names depth at (lent (now (work .entry)) (now (output .entry)) (now (errors .entry)) (now (rows .entry)) (now (buckets .entry)) state) (lent (now (work .entry)) (now (output .exit)) (now (errors .exit)) (now (rows .entry)) (now (buckets .entry)) (r .state)) (r .ty) ⌝ }
 {
     match kind {
         IDENTIFIER => {
@@ -101,11 +102,12 @@ fn sizeof(
     output: &mut [u8],
     errors: &mut [u32],
     rows: &mut [u32],
+    buckets: &mut [u16; lookup::LENGTH],
     state: State,
 ) -> Typed
     requires { ⌜ FineRecord (now s) depth at (length (now s)) anExpression × (kindAt (now s) at ≡ 47) ⌝ }
-    requires { ⌜ Ready (now s) (lent (now work) (now output) (now errors) (now rows) state) ⌝ }
-    ensures { λ r. ⌜ CarriedAt (now (s .entry)) names depth at (lent (now (work .entry)) (now (output .entry)) (now (errors .entry)) (now (rows .entry)) state) (lent (now (work .entry)) (now (output .exit)) (now (errors .exit)) (now (rows .exit)) (r .state)) (r .ty) ⌝ }
+    requires { ⌜ Ready (now s) (lent (now work) (now output) (now errors) (now rows) (now buckets) state) ⌝ }
+    ensures { λ r. ⌜ CarriedAt (now (s .entry)) names depth at (lent (now (work .entry)) (now (output .entry)) (now (errors .entry)) (now (rows .entry)) (now (buckets .entry)) state) (lent (now (work .entry)) (now (output .exit)) (now (errors .exit)) (now (rows .exit)) (now (buckets .exit)) (r .state)) (r .ty) ⌝ }
 {
     let converted = convert::convert_node_type(
         s,
@@ -116,6 +118,7 @@ fn sizeof(
         output,
         errors,
         rows,
+        buckets,
         state,
     );
     let next = converted.state;
@@ -136,27 +139,109 @@ pub fn type_check_expression(
     output: &mut [u8],
     errors: &mut [u32],
     rows: &mut [u32],
+    buckets: &mut [u16; lookup::LENGTH],
     state: State,
 ) -> Typed
     requires { ⌜ FineRecord (now s) depth at (length (now s)) anExpression ⌝ }
-    requires { ⌜ Ready (now s) (lent (now work) (now output) (now errors) (now rows) state) ⌝ }
-    ensures { λ r. ⌜ CarriedAt (now (s .entry)) names depth at (lent (now (work .entry)) (now (output .entry)) (now (errors .entry)) (now (rows .entry)) state) (lent (now (work .entry)) (now (output .exit)) (now (errors .exit)) (now (rows .exit)) (r .state)) (r .ty) ⌝ }
+    requires { ⌜ Ready (now s) (lent (now work) (now output) (now errors) (now rows) (now buckets) state) ⌝ }
+    ensures { λ r. ⌜ CarriedAt (now (s .entry)) names depth at (lent (now (work .entry)) (now (output .entry)) (now (errors .entry)) (now (rows .entry)) (now (buckets .entry)) state) (lent (now (work .entry)) (now (output .exit)) (now (errors .exit)) (now (rows .exit)) (now (buckets .exit)) (r .state)) (r .ty) ⌝ }
 {
     let head = enter(s, at, s.len(), depth, EXPRESSION);
     let kind = head.kind;
     if kind <= STRING {
-        return leaf(s, names, work, at, depth, kind, output, errors, rows, state);
+        return leaf(
+            s,
+            names,
+            work,
+            at,
+            depth,
+            kind,
+            output,
+            errors,
+            rows,
+            buckets,
+            state,
+        );
     }
     match kind {
-        CALL => call(s, names, work, at, depth, output, errors, rows, state),
-        INDEX => two_operands(s, names, work, at, depth, head, output, errors, rows, state),
-        CAST => cast(s, names, work, at, depth, output, errors, rows, state),
-        SIZEOF => sizeof(s, names, work, at, depth, output, errors, rows, state),
+        CALL => call(
+            s,
+            names,
+            work,
+            at,
+            depth,
+            output,
+            errors,
+            rows,
+            buckets,
+            state,
+        ),
+        INDEX => two_operands(
+            s,
+            names,
+            work,
+            at,
+            depth,
+            head,
+            output,
+            errors,
+            rows,
+            buckets,
+            state,
+        ),
+        CAST => cast(
+            s,
+            names,
+            work,
+            at,
+            depth,
+            output,
+            errors,
+            rows,
+            buckets,
+            state,
+        ),
+        SIZEOF => sizeof(
+            s,
+            names,
+            work,
+            at,
+            depth,
+            output,
+            errors,
+            rows,
+            buckets,
+            state,
+        ),
         _ => {
             if kind <= BOOLEAN_NOT {
-                return one_operand(s, names, work, at, depth, head, output, errors, rows, state);
+                return one_operand(
+                    s,
+                    names,
+                    work,
+                    at,
+                    depth,
+                    head,
+                    output,
+                    errors,
+                    rows,
+                    buckets,
+                    state,
+                );
             }
-            two_operands(s, names, work, at, depth, head, output, errors, rows, state)
+            two_operands(
+                s,
+                names,
+                work,
+                at,
+                depth,
+                head,
+                output,
+                errors,
+                rows,
+                buckets,
+                state,
+            )
         }
     }
 }
@@ -172,17 +257,29 @@ fn one_operand(
     output: &mut [u8],
     errors: &mut [u32],
     rows: &mut [u32],
+    buckets: &mut [u16; lookup::LENGTH],
     state: State,
 ) -> Typed
     requires { ⌜ OneOperand (now s) (head .kind) depth at (head .start) ⌝ }
-    requires { ⌜ Ready (now s) (lent (now work) (now output) (now errors) (now rows) state) ⌝ }
-    ensures { λ r. ⌜ CarriedAt (now (s .entry)) names depth at (lent (now (work .entry)) (now (output .entry)) (now (errors .entry)) (now (rows .entry)) state) (lent (now (work .entry)) (now (output .exit)) (now (errors .exit)) (now (rows .exit)) (r .state)) (r .ty) ⌝ }
+    requires { ⌜ Ready (now s) (lent (now work) (now output) (now errors) (now rows) (now buckets) state) ⌝ }
+    ensures { λ r. ⌜ CarriedAt (now (s .entry)) names depth at (lent (now (work .entry)) (now (output .entry)) (now (errors .entry)) (now (rows .entry)) (now (buckets .entry)) state) (lent (now (work .entry)) (now (output .exit)) (now (errors .exit)) (now (rows .exit)) (now (buckets .exit)) (r .state)) (r .ty) ⌝ }
 {
     let first = head.start;
     let inner = depth - 1;
-    let operand = type_check_expression(s, names, work, first, inner, output, errors, rows, state);
+    let operand = type_check_expression(
+        s,
+        names,
+        work,
+        first,
+        inner,
+        output,
+        errors,
+        rows,
+        buckets,
+        state,
+    );
     let next = operand.state;
-    let typed = rules::unary(head.kind, s, at, operand.ty, errors, rows, next);
+    let typed = rules::unary(head.kind, s, at, operand.ty, errors, rows, buckets, next);
     let ty = typed.ty;
     state::put_slot(output, at, ty);
     typed
@@ -199,18 +296,41 @@ fn two_operands(
     output: &mut [u8],
     errors: &mut [u32],
     rows: &mut [u32],
+    buckets: &mut [u16; lookup::LENGTH],
     state: State,
 ) -> Typed
     requires { ⌜ TwoOperands (now s) (head .kind) depth at (head .start) ⌝ }
-    requires { ⌜ Ready (now s) (lent (now work) (now output) (now errors) (now rows) state) ⌝ }
-    ensures { λ r. ⌜ CarriedAt (now (s .entry)) names depth at (lent (now (work .entry)) (now (output .entry)) (now (errors .entry)) (now (rows .entry)) state) (lent (now (work .entry)) (now (output .exit)) (now (errors .exit)) (now (rows .exit)) (r .state)) (r .ty) ⌝ }
+    requires { ⌜ Ready (now s) (lent (now work) (now output) (now errors) (now rows) (now buckets) state) ⌝ }
+    ensures { λ r. ⌜ CarriedAt (now (s .entry)) names depth at (lent (now (work .entry)) (now (output .entry)) (now (errors .entry)) (now (rows .entry)) (now (buckets .entry)) state) (lent (now (work .entry)) (now (output .exit)) (now (errors .exit)) (now (rows .exit)) (now (buckets .exit)) (r .state)) (r .ty) ⌝ }
 {
     let first = head.start;
     let inner = depth - 1;
-    let left = type_check_expression(s, names, work, first, inner, output, errors, rows, state);
+    let left = type_check_expression(
+        s,
+        names,
+        work,
+        first,
+        inner,
+        output,
+        errors,
+        rows,
+        buckets,
+        state,
+    );
     let middle = left.state;
     let second = first + length_at(s, first);
-    let right = type_check_expression(s, names, work, second, inner, output, errors, rows, middle);
+    let right = type_check_expression(
+        s,
+        names,
+        work,
+        second,
+        inner,
+        output,
+        errors,
+        rows,
+        buckets,
+        middle,
+    );
     let next = right.state;
     let typed = rules::binary(
         head.kind,
@@ -238,15 +358,27 @@ fn cast(
     output: &mut [u8],
     errors: &mut [u32],
     rows: &mut [u32],
+    buckets: &mut [u16; lookup::LENGTH],
     state: State,
 ) -> Typed
     requires { ⌜ FineRecord (now s) depth at (length (now s)) anExpression × (kindAt (now s) at ≡ 38) ⌝ }
-    requires { ⌜ Ready (now s) (lent (now work) (now output) (now errors) (now rows) state) ⌝ }
-    ensures { λ r. ⌜ CarriedAt (now (s .entry)) names depth at (lent (now (work .entry)) (now (output .entry)) (now (errors .entry)) (now (rows .entry)) state) (lent (now (work .entry)) (now (output .exit)) (now (errors .exit)) (now (rows .exit)) (r .state)) (r .ty) ⌝ }
+    requires { ⌜ Ready (now s) (lent (now work) (now output) (now errors) (now rows) (now buckets) state) ⌝ }
+    ensures { λ r. ⌜ CarriedAt (now (s .entry)) names depth at (lent (now (work .entry)) (now (output .entry)) (now (errors .entry)) (now (rows .entry)) (now (buckets .entry)) state) (lent (now (work .entry)) (now (output .exit)) (now (errors .exit)) (now (rows .exit)) (now (buckets .exit)) (r .state)) (r .ty) ⌝ }
 {
     let first = at + PARTS;
     let inner = depth - 1;
-    let value = type_check_expression(s, names, work, first, inner, output, errors, rows, state);
+    let value = type_check_expression(
+        s,
+        names,
+        work,
+        first,
+        inner,
+        output,
+        errors,
+        rows,
+        buckets,
+        state,
+    );
     let middle = value.state;
     let second = first + length_at(s, first);
     let converted = convert::convert_node_type(
@@ -258,6 +390,7 @@ fn cast(
         output,
         errors,
         rows,
+        buckets,
         middle,
     );
     let next = converted.state;
@@ -277,15 +410,27 @@ fn call(
     output: &mut [u8],
     errors: &mut [u32],
     rows: &mut [u32],
+    buckets: &mut [u16; lookup::LENGTH],
     state: State,
 ) -> Typed
     requires { ⌜ FineRecord (now s) depth at (length (now s)) anExpression × (kindAt (now s) at ≡ 36) ⌝ }
-    requires { ⌜ Ready (now s) (lent (now work) (now output) (now errors) (now rows) state) ⌝ }
-    ensures { λ r. ⌜ CarriedAt (now (s .entry)) names depth at (lent (now (work .entry)) (now (output .entry)) (now (errors .entry)) (now (rows .entry)) state) (lent (now (work .entry)) (now (output .exit)) (now (errors .exit)) (now (rows .exit)) (r .state)) (r .ty) ⌝ }
+    requires { ⌜ Ready (now s) (lent (now work) (now output) (now errors) (now rows) (now buckets) state) ⌝ }
+    ensures { λ r. ⌜ CarriedAt (now (s .entry)) names depth at (lent (now (work .entry)) (now (output .entry)) (now (errors .entry)) (now (rows .entry)) (now (buckets .entry)) state) (lent (now (work .entry)) (now (output .exit)) (now (errors .exit)) (now (rows .exit)) (now (buckets .exit)) (r .state)) (r .ty) ⌝ }
 {
     let first = at + PARTS;
     let inner = depth - 1;
-    let target = type_check_expression(s, names, work, first, inner, output, errors, rows, state);
+    let target = type_check_expression(
+        s,
+        names,
+        work,
+        first,
+        inner,
+        output,
+        errors,
+        rows,
+        buckets,
+        state,
+    );
     let middle = target.state;
     let from = first + length_at(s, first);
     let stop = at + length_at(s, at);
@@ -299,6 +444,7 @@ fn call(
         output,
         errors,
         rows,
+        buckets,
         middle,
     );
     let typed = lists::call_result(s, at, target.ty, from, stop, output, errors, rows, next);
@@ -318,16 +464,28 @@ pub fn type_check_expressions(
     output: &mut [u8],
     errors: &mut [u32],
     rows: &mut [u32],
+    buckets: &mut [u16; lookup::LENGTH],
     state: State,
 ) -> State
     requires { ⌜ FineList (now s) depth from end Expressions ⌝ }
-    requires { ⌜ Ready (now s) (lent (now work) (now output) (now errors) (now rows) state) ⌝ }
-    ensures { λ r. ⌜ CarriedAll (now (s .entry)) names (expressionsAt (now (s .entry)) depth from end) from end (lent (now (work .entry)) (now (output .entry)) (now (errors .entry)) (now (rows .entry)) state) (lent (now (work .entry)) (now (output .exit)) (now (errors .exit)) (now (rows .exit)) r) ⌝ }
+    requires { ⌜ Ready (now s) (lent (now work) (now output) (now errors) (now rows) (now buckets) state) ⌝ }
+    ensures { λ r. ⌜ CarriedAll (now (s .entry)) names (expressionsAt (now (s .entry)) depth from end) from end (lent (now (work .entry)) (now (output .entry)) (now (errors .entry)) (now (rows .entry)) (now (buckets .entry)) state) (lent (now (work .entry)) (now (output .exit)) (now (errors .exit)) (now (rows .exit)) (now (buckets .exit)) r) ⌝ }
 {
     let mut at = from;
     let mut next = state;
     while at < end {
-        let typed = type_check_expression(s, names, work, at, depth, output, errors, rows, next);
+        let typed = type_check_expression(
+            s,
+            names,
+            work,
+            at,
+            depth,
+            output,
+            errors,
+            rows,
+            buckets,
+            next,
+        );
         next = typed.state;
         at = at + length_at(s, at);
     }

@@ -7,9 +7,8 @@ use mathlib.Core.Option.{Option, none, some}
 use native.Mathlib.Omega.{arith}
 use lib.ListN.{length}
 use Rattle.types.specs.Ty.{Ty, unknown, firstOf, fieldNamed}
-use Rattle.types.specs.Table.{unfolded, Table, Extends, IsType}
+use Rattle.types.specs.Table.{unfolded, Table, IsType}
 use Rattle.types.specs.Post.{FoundType}
-use Rattle.types.proofs.Grow.{extends-type}
 use Rattle.relations.specs.Entry.{OneType, TwoTypes}
 use Rattle.relations.specs.Relations.{typesAreAssignable}
 use Rattle.node.specs.Bytes.{Read, wordAt}
@@ -31,7 +30,7 @@ use Rattle.rules.specs.Rules.{CheckAssignable}
 use Rattle.rules.proofs.Laws.{spells-at, checks-unless, checks-room, checks-then, reported-always}
 use Rattle.lists.specs.Lists.{Chain}
 use Rattle.lists.proofs.Chains.{first, next-place}
-use Rattle.lists.proofs.Turns.{checks-at, checks-grew, checks-none}
+use Rattle.lists.proofs.Turns.{checks-at, checks-none}
 use Rattle.fields.specs.Fields.{valuePlace, ValueTypes, FilledFields, FieldsAt, ValuesShow, CheckField, fieldErrorsAgainst, CheckFields}
 
 -- What is required of the fields
@@ -53,14 +52,6 @@ first-value w c s o at stop f p = go (f .listed .many) (f .listed .chain) (f .ty
           is = t .1;
           next = record { listed = record { many = n; chain = h .2; long = f .listed .long; few = f .listed .few }; types = t .2; room = f .room };
         }
-
-value-types-later : (w : List ℕ) (c c′ : ℕ) → Extends w c w c′ → (s o : List ℕ) (n at : ℕ) → ValueTypes w c s o n at → ValueTypes w c′ s o n at
-unfolding ValueTypes
-value-types-later w c c′ x s o zero at t = tt
-value-types-later w c c′ x s o (suc n) at t = (t .0, extends-type w w c c′ x (wordAt o (valuePlace at)) (t .1), value-types-later w c c′ x s o n (stopAt s at) (t .2))
-
-fields-later : (w : List ℕ) (c c′ : ℕ) → Extends w c w c′ → (s o : List ℕ) (at stop : ℕ) → FilledFields w c s o at stop → FilledFields w c′ s o at stop
-fields-later w c c′ x s o at stop f = record { listed = f .listed; types = value-types-later w c c′ x s o (f .listed .many) at (f .types); room = f .room }
 
 -- The first field and the others
 
@@ -140,8 +131,8 @@ module _ (s : List ℕ) (place bare : ℕ) (o w e e′ : List ℕ) (st st′ : S
       checks-room (λ v. noSuchCompoundField (locationAt s place) (wordAt s (place + 16)) ∷ [])
       (λ v. fieldFits (locationAt s place) (wordAt s (place + 16)) (fieldNamed (wordAt s (place + 16)) (firstOf (unfolded w bare))) v)
       (checks-unless (λ v. false) (λ v. noSuchCompoundField (locationAt s place) (wordAt s (place + 16))) (reported-always (subst (λ (z : Error). Reported e st z e′ st′) ex rep))
-      (λ work output v y p. refl) (λ work output v y p. spells-at s place 27 (refl, en .is) (refl, refl) (refl, refl)))
-      (λ work output v y p.
+      (λ work output ix v y p. refl) (λ work output ix v y p. spells-at s place 27 (refl, en .is) (refl, refl) (refl, refl)))
+      (λ work output ix v y p.
       ap (λ (z : Option Ty). fieldFits (locationAt s place) (wordAt s (place + 16)) z v) (here none (found .absent q)))
 
   module _ (n : field ≡ 0 → ⊥) (got : ℕ) (eg : Read (wordAt o (place + 36)) 32 got) where
@@ -157,13 +148,13 @@ module _ (s : List ℕ) (place bare : ℕ) (o w e e′ : List ℕ) (st st′ : S
         checks-room (λ v. checkAssignable (locationAt s place) (unfolded w field) v)
         (λ v. fieldFits (locationAt s place) (wordAt s (place + 16)) (fieldNamed (wordAt s (place + 16)) (firstOf (unfolded w bare))) v)
         (checks-at (λ v. record { left = unfolded w field; right = v }) (λ t. checkAssignable (locationAt s place) (t .left) (t .right)) c
-        (λ work output v y.
+        (λ work output ix v y.
         let q : place + 36 ≡ place + 20 + 16 = omega arith in
         record {
           left = record { shows = λ p. record { is = found .is low; type = refl } };
-          right = subst (λ (r : ℕ). Typing (lent work output e w st) r v) (ap (wordAt o) (sym q) ∙ sym (eg .is)) y;
+          right = subst (λ (r : ℕ). Typing (lent work output e w ix st) r v) (ap (wordAt o) (sym q) ∙ sym (eg .is)) y;
         }))
-        (λ work output v y p.
+        (λ work output ix v y p.
         ap (λ (z : Option Ty). fieldFits (locationAt s place) (wordAt s (place + 16)) z v) (here (some (unfolded w field)) (found .type low)))
 
 -- `check_fields`
@@ -196,15 +187,12 @@ module _ (s : List ℕ) (from stop bare : ℕ) (o w e₀ : List ℕ) (st₀ : St
       checking-on e₁ st₁ c same len el =
           subst (λ (x : ℕ). Checking s from stop bare o w e₀ st₀ x e₁ st₁) (next-place s place stop (i .filled .listed) p len el)
           (record {
-            one = record { table = grew .good .table; type = extends-type w w (st .rows) (st₁ .rows) (grew .extends) bare (i .one .type) };
-            filled = fields-later w (st .rows) (st₁ .rows) (grew .extends) s o (stopAt s place) stop (first-value w (st .rows) s o place stop (i .filled) p .next);
+            one = subst (λ (n : ℕ). OneType w n bare) (sym (c .kept)) (i .one);
+            filled = subst (λ (n : ℕ). FilledFields w n s o (stopAt s place) stop) (sym (c .kept)) (first-value w (st .rows) s o place stop (i .filled) p .next);
             long = same ∙ i .long;
             going = λ e′ st′ later. i .going e′ st′ (turn e′ st′ later);
           })
         where
-          grew : Grew (lent [] [] e w st) (lent [] [] e₁ w st₁)
-          grew = checks-grew c (i .one .table)
-
           first-fits : (ctx : Context) (fields : List CompoundField) → FieldsAt s stop fields place
               → fieldFits (locationAt s place) (wordAt s (place + 16)) (fieldNamed (wordAt s (place + 16)) (firstOf (unfolded w bare))) (firstType ctx fields)
               ≡ atFirst (λ f. fieldFits (f .location) (f .name) (fieldNamed (f .name) (firstOf (unfolded w bare))) (expressionType ctx (f .value))) fields
@@ -221,16 +209,16 @@ module _ (s : List ℕ) (from stop bare : ℕ) (o w e₀ : List ℕ) (st₀ : St
               (λ x. fieldErrorsAgainst (firstOf (unfolded w bare)) (x .ctx) (others (x .fields)))
               (checks-at (λ x. firstType (x .ctx) (x .fields))
               (λ v. fieldFits (locationAt s place) (wordAt s (place + 16)) (fieldNamed (wordAt s (place + 16)) (firstOf (unfolded w bare))) v) c
-              (λ work output x h. first-typing s stop o (lent work output e w st) (x .ctx) (x .fields) place (h .stand) p (h .show)))
+              (λ work output ix x h. first-typing s stop o (lent work output e w ix st) (x .ctx) (x .fields) place (h .stand) p (h .show)))
               (checks-at (λ x. record { ctx = x .ctx; target = x .target; fields = others (x .fields) })
               (λ x. fieldErrorsAgainst (firstOf (unfolded w bare)) (x .ctx) (x .fields)) later
-              (λ work output x h.
+              (λ work output ix x h.
               record {
                 stand = others-at s stop (x .fields) place (h .stand) p;
-                show = others-show s stop o (lent work output e₁ w st₁) (x .ctx) (x .fields) place (h .stand) p (h .show);
+                show = others-show s stop o (lent work output e₁ w ix st₁) (x .ctx) (x .fields) place (h .stand) p (h .show);
               }))
               (λ C C′ x g h. record { stand = h .stand; show = values-later s o C C′ (x .ctx) (x .fields) place g (h .show) }))
-              (λ work output x h q.
+              (λ work output ix x h q.
               ap (λ (l : List TypeError). l ++ fieldErrorsAgainst (firstOf (unfolded w bare)) (x .ctx) (others (x .fields))) (first-fits (x .ctx) (x .fields) (h .stand))
               ∙ each-first (λ f. fieldFits (f .location) (f .name) (fieldNamed (f .name) (firstOf (unfolded w bare))) (expressionType (x .ctx) (f .value))) (x .fields))
 
@@ -239,4 +227,4 @@ module _ (s : List ℕ) (from stop bare : ℕ) (o w e₀ : List ℕ) (st₀ : St
     checking-done p =
         i .going e st
         (checks-room (λ x. []) (λ x. fieldErrorsAgainst (firstOf (unfolded w bare)) (x .ctx) (x .fields)) checks-none
-        (λ work output x h q. sym (ap (λ (l : List CompoundField). fieldErrorsAgainst (firstOf (unfolded w bare)) (x .ctx) l) (none-left s stop (x .fields) place (h .stand) p))))
+        (λ work output ix x h q. sym (ap (λ (l : List CompoundField). fieldErrorsAgainst (firstOf (unfolded w bare)) (x .ctx) l) (none-left s stop (x .fields) place (h .stand) p))))

@@ -28,7 +28,7 @@ use Rattle.rules.proofs.Laws.{spells-at, checks-unless, checks-room, checks-the
 use Rattle.lists.specs.Lists.{Listed}
 use Rattle.lists.proofs.Chains.{first, next-place}
 use Rattle.lists.proofs.Turns.{checks-at, checks-none}
-use Rattle.fields.specs.Fields.{FieldsAt, Compounded, CompoundTyped, fieldErrorsAgainst, CheckFields, countIf, Occurs, CheckRepeats, StructCompound}
+use Rattle.fields.specs.Fields.{FieldsAt, Compounded, CompoundTyped, fieldErrorsAgainst, CheckFields, countIf, Occurs, Single, CheckRepeats, StructCompound}
 use Rattle.fields.proofs.Fields.{atFirst, others, each-first, others-at, none-left, twice-at}
 
 -- `count_if`
@@ -94,7 +94,7 @@ module _ (s : List ℕ) (from stop name at count : ℕ) (i : Occurring s from st
       done fields ([], h, z) = omega (arith, z)
       done fields (x ∷ rest, h, z) = absurd (omega (arith, h .0))
 
--- `check_repeats`
+-- `report_repeats`
 
 -- An error for each of `some` that stands twice among `all`
 abbrev repeatedAmong : (all some : List CompoundField) → List TypeError
@@ -130,7 +130,7 @@ module _ (s : List ℕ) (from stop : ℕ) (e₀ : List ℕ) (st₀ : State) wher
       record {
         listed = l;
         long = refl;
-        going = λ w e′ st′ c. checks-at (λ fields. record { all = fields; left = fields }) (λ x. repeatedAmong (x .all) (x .left)) c (λ work o fields h. record { whole = h; rest = h });
+        going = λ w e′ st′ c. checks-at (λ fields. record { all = fields; left = fields }) (λ x. repeatedAmong (x .all) (x .left)) c (λ work o ix fields h. record { whole = h; rest = h });
       }
 
   module _ (at : ℕ) (e : List ℕ) (st : State) (i : Repeats s from stop e₀ st₀ at e st) where
@@ -140,10 +140,10 @@ module _ (s : List ℕ) (from stop : ℕ) (e₀ : List ℕ) (st₀ : State) wher
     pub repeated-head : at < stop → at + 16 ≤ length s
     repeated-head p = let f = first s at stop (i .listed) p in omega (arith, f .slot, f .ends, i .listed .long)
 
-    pub repeats-on : at < stop → (name : ℕ) → Read (wordAt s (at + 16)) 32 name → (n : ℕ) → Occurs s from stop name n → (e₁ : List ℕ) (st₁ : State)
-        → ReportedUnless (leb n 1) (errorAt s at 29 name 0 0) e st e₁ st₁ → length e₁ ≡ length e → (len : ℕ) → Read (wordAt s at) 32 len → Repeats s from stop e₀ st₀ (at + len) e₁ st₁
+    pub repeats-on : at < stop → (name : ℕ) → Read (wordAt s (at + 16)) 32 name → (once : Bool) → Single s from stop name once → (e₁ : List ℕ) (st₁ : State)
+        → ReportedUnless once (errorAt s at 29 name 0 0) e st e₁ st₁ → length e₁ ≡ length e → (len : ℕ) → Read (wordAt s at) 32 len → Repeats s from stop e₀ st₀ (at + len) e₁ st₁
     unfolding SpellsOperand isTypeOperand operandSort
-    repeats-on p name en n oc e₁ st₁ rep same len el =
+    repeats-on p name en once single e₁ st₁ rep same len el =
         subst (λ (x : ℕ). Repeats s from stop e₀ st₀ x e₁ st₁) (next-place s at stop (i .listed) p len el)
         (record { listed = first s at stop (i .listed) p .next; long = same ∙ i .long; going = λ w e′ st′ later. i .going w e′ st′ (turn w e′ st′ later) })
       where
@@ -156,12 +156,12 @@ module _ (s : List ℕ) (from stop : ℕ) (e₀ : List ℕ) (st₀ : State) wher
             (checks-then (λ x. unless (leb (occurrences (wordAt s (at + 16)) (x .all)) 1) (fieldTwice (locationAt s at) (wordAt s (at + 16))))
             (λ x. repeatedAmong (x .all) (others (x .left)))
             (checks-unless (λ x. leb (occurrences (wordAt s (at + 16)) (x .all)) 1) (λ x. fieldTwice (locationAt s at) (wordAt s (at + 16))) rep
-            (λ work o x h q. ap (λ (m : ℕ). leb m 1) (oc .count (x .all) (h .whole) ∙ ap (λ (m : ℕ). occurrences m (x .all)) (en .is)))
-            (λ work o x h q. spells-at s at 29 (refl, en .is) (refl, refl) (refl, refl)))
+            (λ work o ix x h q. single .is (x .all) (h .whole) ∙ ap (λ (m : ℕ). leb (occurrences m (x .all)) 1) (en .is))
+            (λ work o ix x h q. spells-at s at 29 (refl, en .is) (refl, refl) (refl, refl)))
             (checks-at (λ x. record { all = x .all; left = others (x .left) }) (λ x. repeatedAmong (x .all) (x .left)) later
-            (λ work o x h. record { whole = h .whole; rest = others-at s stop (x .left) at (h .rest) p }))
+            (λ work o ix x h. record { whole = h .whole; rest = others-at s stop (x .left) at (h .rest) p }))
             (λ C C′ x g h. record { whole = h .whole; rest = h .rest }))
-            (λ work o x h q.
+            (λ work o ix x h q.
             ap (λ (l : List TypeError). l ++ repeatedAmong (x .all) (others (x .left))) (twice-first (x .all) (x .left) at s stop (h .rest) p)
             ∙ each-first (λ f. unless (leb (occurrences (f .name) (x .all)) 1) (fieldTwice (f .location) (f .name))) (x .left))
 
@@ -171,23 +171,23 @@ module _ (s : List ℕ) (from stop : ℕ) (e₀ : List ℕ) (st₀ : State) wher
         record {
           checked = λ w. i .going w e st
               (checks-room (λ x. []) (λ x. repeatedAmong (x .all) (x .left)) checks-none
-              (λ work o x h q. sym (ap (λ (l : List CompoundField). repeatedAmong (x .all) l) (none-left s stop (x .left) at (h .rest) p))));
+              (λ work o ix x h q. sym (ap (λ (l : List CompoundField). repeatedAmong (x .all) l) (none-left s stop (x .left) at (h .rest) p))));
         }
 
 -- `struct_compound`
 module _ (s : List ℕ) (at target from stop : ℕ) (o w e e′ : List ℕ) (st st′ : State) (bare : ℕ) (strip : TypePart w (st .rows) (target + 1) (desugar (unfolded w target)) bare)
     (k : ℕ) (ek : k ≡ kindOf (unfolded w bare)) where
-  stripped : (work output : List ℕ) (x : Compounded) → CompoundTyped s o from stop target (lent work output e w st) x → st .full ≡ false → unfolded w bare ≡ desugar (x .target)
-  stripped work output x y p = strip .type ∙ ap desugar (y .typing .shows p .type)
+  stripped : (work output ix : List ℕ) (x : Compounded) → CompoundTyped s o from stop target (lent work output e w ix st) x → st .full ≡ false → unfolded w bare ≡ desugar (x .target)
+  stripped work output ix x y p = strip .type ∙ ap desugar (y .typing .shows p .type)
 
   pub no-struct : (k ≡ 8 → ⊥) → (x : Error) → x ≡ errorAt s at 28 target 0 0 → Reported e st x e′ st′ → StructCompound s at target from stop o w e st e′ st′
   unfolding SpellsOperand isTypeOperand operandSort
   no-struct q x ex rep =
       checks-room (λ x. structCompoundTarget (locationAt s at) (x .target) ∷ []) (λ x. structErrors (x .ctx) (locationAt s at) (x .target) (x .fields))
       (checks-unless (λ x. false) (λ x. structCompoundTarget (locationAt s at) (x .target)) (reported-always (subst (λ (z : Error). Reported e st z e′ st′) ex rep))
-      (λ work output x y p. refl) (λ work output x y p. spells-at s at 28 (refl, y .typing .shows p) (refl, refl) (refl, refl)))
-      (λ work output x y p.
-      let z : eqb (kindOf (desugar (x .target))) 8 ≡ false = ne-eqb (kindOf (desugar (x .target))) 8 (λ u. q (ek ∙ ap kindOf (stripped work output x y p) ∙ u)) in
+      (λ work output ix x y p. refl) (λ work output ix x y p. spells-at s at 28 (refl, y .typing .shows p) (refl, refl) (refl, refl)))
+      (λ work output ix x y p.
+      let z : eqb (kindOf (desugar (x .target))) 8 ≡ false = ne-eqb (kindOf (desugar (x .target))) 8 (λ u. q (ek ∙ ap kindOf (stripped work output ix x y p) ∙ u)) in
       rw z refl)
 
   pub struct-kind : k ≡ 8 → kindOf (unfolded w bare) ≡ structKind
@@ -196,8 +196,8 @@ module _ (s : List ℕ) (at target from stop : ℕ) (o w e e′ : List ℕ) (st 
   pub struct-filled : k ≡ 8 → CheckFields s from stop bare o w e st e′ st′ → StructCompound s at target from stop o w e st e′ st′
   struct-filled q c =
       checks-room (λ x. fieldErrorsAgainst (firstOf (unfolded w bare)) (x .ctx) (x .fields)) (λ x. structErrors (x .ctx) (locationAt s at) (x .target) (x .fields))
-      (checks-at (λ x. x) (λ x. fieldErrorsAgainst (firstOf (unfolded w bare)) (x .ctx) (x .fields)) c (λ work output x y. y .fields))
-      (λ work output x y p.
-      let t : unfolded w bare ≡ desugar (x .target) = stripped work output x y p in
+      (checks-at (λ x. x) (λ x. fieldErrorsAgainst (firstOf (unfolded w bare)) (x .ctx) (x .fields)) c (λ work output ix x y. y .fields))
+      (λ work output ix x y p.
+      let t : unfolded w bare ≡ desugar (x .target) = stripped work output ix x y p in
       let z : eqb (kindOf (desugar (x .target))) 8 ≡ true = eq-eqb (kindOf (desugar (x .target))) 8 (sym (ap kindOf t) ∙ sym ek ∙ q) in
       rw z (ap (λ (u : Ty). fieldErrorsAgainst (firstOf u) (x .ctx) (x .fields)) t))

@@ -1,9 +1,10 @@
 -- The fields of a struct compound whose values are typed: what is required of them, what they show, and what the checks promise.
-use Prim.Native.Nat.{ℕ, zero, suc, _+_, _≤_, _<_}
+use Prim.Native.Nat.{ℕ, zero, suc, _+_, _%_, _≤_, _<_, min}
 use mathlib.Core.Path.{_≡_}
 use mathlib.Core.Bool.{Bool, cond}
 use mathlib.Core.List.{List, [], _∷_}
-use lib.ListN.{length}
+use lib.ListN.{length, getD}
+use lib.Dec.{leb}
 use Rattle.types.specs.Ty.{Ty, firstOf, fieldNamed}
 use Rattle.types.specs.Table.{unfolded, IsType}
 use Rattle.node.specs.Bytes.{halfAt, wordAt}
@@ -86,6 +87,26 @@ countIf holds count = cond holds (count + 1) count
 -- r is how many fields have the name
 pub record Occurs (s : List ℕ) (from stop name r : ℕ) : Type 0 where
   pub count : (fields : List CompoundField) → FieldsAt s stop fields from → r ≡ occurrences name fields
+
+-- One more, but no more than 2
+abbrev pub upToTwo : (count : ℕ) → ℕ
+upToTwo count = min (count + 1) 2
+
+-- A table of names has so many entries
+abbrev pub entries : ℕ
+entries = 4096
+
+-- The entry of a name in a table; 2, which says nothing, if there is none
+abbrev pub entryOf : (table : List ℕ) → (name : ℕ) → ℕ
+entryOf table name = getD table (name % entries) 2
+
+-- No more fields have a name than its entry says, if that is 0 or 1
+pub record Tallied (s : List ℕ) (from stop : ℕ) (table : List ℕ) : Type 0 where
+  pub most : (name : ℕ) → entryOf table name ≤ 1 → (fields : List CompoundField) → FieldsAt s stop fields from → occurrences name fields ≤ entryOf table name
+
+-- r is whether at most one field has the name
+pub record Single (s : List ℕ) (from stop name : ℕ) (r : Bool) : Type 0 where
+  pub is : (fields : List CompoundField) → FieldsAt s stop fields from → r ≡ leb (occurrences name fields) 1
 
 -- Whatever rows are lent
 pub record CheckRepeats (s : List ℕ) (from stop : ℕ) (errors : List ℕ) (state : State) (errors′ : List ℕ) (state′ : State) : Type 0 where

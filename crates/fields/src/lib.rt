@@ -16,7 +16,7 @@ ghost use Rattle.types.specs.Table.{IsType, unfolded};
 ghost use Rattle.node.specs.Bytes.{wordAt};
 ghost use Rattle.relations.specs.Entry.{OneType};
 ghost use Rattle.lists.specs.Lists.{Listed};
-ghost use Rattle.fields.specs.Fields.{valuePlace, FilledFields, CheckField, CheckFields, countIf, Occurs, CheckRepeats, StructCompound};
+ghost use Rattle.fields.specs.Fields.{valuePlace, FilledFields, CheckField, CheckFields, countIf, Occurs, upToTwo, entries, entryOf, Tallied, Single, CheckRepeats, StructCompound};
 
 // The field at `place` against the struct type of row `bare`.
 fn check_field(
@@ -91,20 +91,92 @@ fn occurrences(s: &[u8], from: usize, end: usize, name: u32) -> u32
     count
 }
 
-// An error at each field from `from` to `end` whose name another has too.
-pub fn check_repeats(s: &[u8], from: usize, end: usize, errors: &mut [u32], state: State) -> State
-    requires { ⌜ Listed (now s) from end ⌝ }
+// The entries of a table of names. A file has fewer names.
+const ENTRIES: usize = 4096;
+
+// The bytes of a list that is worth a table.
+const LONG: usize = 1024;
+
+// One more, but no more than 2.
+fn up_to_two(count: u8) -> u8
+    ensures { λ r. ⌜ r ≡ upToTwo count ⌝ }
+{
+    if count < 2 {
+        return count + 1;
+    }
+    2
+}
+
+// Counts the names of the fields from `from` to `end` into a table. Names that share an entry are counted together.
+fn count_names(s: &[u8], from: usize, end: usize, table: &mut [u8; ENTRIES])
+    requires { ⌜ Listed (now s) from end × (length (now table) ≡ entries) ⌝ }
+    ensures { λ _. ⌜ Tallied (now (s .entry)) from end (now (table .exit)) × (length (now (table .exit)) ≡ entries) ⌝ }
+{
+    let mut at = from;
+    while at < end {
+        let i = word(s, at + 16) as usize % ENTRIES;
+        let count = table[i];
+        table[i] = up_to_two(count);
+        at = at + length_at(s, at);
+    }
+}
+
+// The entry of a name in a table; 2 if there is none.
+fn entry_of(table: &[u8], name: u32) -> u8
+    ensures { λ r. ⌜ r ≡ entryOf (now (table .entry)) name ⌝ }
+{
+    let i = name as usize % ENTRIES;
+    if table.len() <= i {
+        return 2;
+    }
+    table[i]
+}
+
+// Whether one field from `from` to `end` at most has a name. They are counted only if the table leaves it open.
+fn is_single(s: &[u8], from: usize, end: usize, table: &[u8], name: u32) -> bool
+    requires { ⌜ Listed (now s) from end × Tallied (now s) from end (now table) ⌝ }
+    ensures { λ r. ⌜ Single (now (s .entry)) from end name r ⌝ }
+{
+    if entry_of(table, name) <= 1 {
+        return true;
+    }
+    occurrences(s, from, end, name) <= 1
+}
+
+// An error at each field from `from` to `end` whose name another has too. The table may be empty.
+fn report_repeats(
+    s: &[u8],
+    from: usize,
+    end: usize,
+    table: &[u8],
+    errors: &mut [u32],
+    state: State,
+) -> State
+    requires { ⌜ Listed (now s) from end × Tallied (now s) from end (now table) ⌝ }
     ensures { λ r. ⌜ CheckRepeats (now (s .entry)) from end (now (errors .entry)) state (now (errors .exit)) r ⌝ }
 {
     let mut at = from;
     let mut next = state;
     while at < end {
         let name = word(s, at + 16);
-        let once = occurrences(s, from, end, name) <= 1;
+        let once = is_single(s, from, end, table, name);
         next = report_unless(once, s, at, FIELD_ASSIGNED_TWICE, name, 0, 0, errors, next);
         at = at + length_at(s, at);
     }
     next
+}
+
+// An error at each field from `from` to `end` whose name another has too. In a long list the names are first counted into a table.
+pub fn check_repeats(s: &[u8], from: usize, end: usize, errors: &mut [u32], state: State) -> State
+    requires { ⌜ Listed (now s) from end ⌝ }
+    ensures { λ r. ⌜ CheckRepeats (now (s .entry)) from end (now (errors .entry)) state (now (errors .exit)) r ⌝ }
+{
+    if end - from < LONG {
+        return report_repeats(s, from, end, b"", errors, state);
+    }
+    let mut table = [0u8; ENTRIES];
+    count_names(s, from, end, &mut table);
+    report_repeats(s, from, end, &table, errors, state)
 }
 
 // A struct compound for a target of the type row `target`.

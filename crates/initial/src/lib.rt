@@ -26,11 +26,12 @@ pub fn type_check_initial(
     output: &mut [u8],
     errors: &mut [u32],
     rows: &mut [u32],
+    buckets: &mut [u16; lookup::LENGTH],
     state: State,
 ) -> State
     requires { ⌜ FineList (now s) depth from end InitialValue ⌝ }
-    requires { ⌜ Ready (now s) (lent (now work) (now output) (now errors) (now rows) state) × OneType (now rows) (state .rows) target ⌝ }
-    ensures { λ r. ⌜ InitialCheckedAt (now (s .entry)) names depth from end compare target (lent (now (work .entry)) (now (output .entry)) (now (errors .entry)) (now (rows .entry)) state) (lent (now (work .entry)) (now (output .exit)) (now (errors .exit)) (now (rows .exit)) r) ⌝ }
+    requires { ⌜ Ready (now s) (lent (now work) (now output) (now errors) (now rows) (now buckets) state) × OneType (now rows) (state .rows) target ⌝ }
+    ensures { λ r. ⌜ InitialCheckedAt (now (s .entry)) names depth from end compare target (lent (now (work .entry)) (now (output .entry)) (now (errors .entry)) (now (rows .entry)) (now (buckets .entry)) state) (lent (now (work .entry)) (now (output .exit)) (now (errors .exit)) (now (rows .exit)) (now (buckets .exit)) r) ⌝ }
 {
     if end <= from {
         return state;
@@ -47,6 +48,7 @@ pub fn type_check_initial(
             output,
             errors,
             rows,
+            buckets,
             state,
         );
     }
@@ -59,6 +61,7 @@ pub fn type_check_initial(
         output,
         errors,
         rows,
+        buckets,
         state,
     );
     let next = value.state;

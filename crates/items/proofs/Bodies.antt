@@ -18,13 +18,13 @@ use Rattle.node.specs.Record.{locationAt, statementAt, bodyAt}
 use Rattle.node.specs.declared.names.BuiltIns.{BuiltIns}
 use Rattle.node.proofs.ItemTrees.{BodyAt, parameters-none, body-at}
 use Rattle.meaning.specs.TypeError.{TypeError, unless, pathsWithoutReturn}
-use Rattle.meaning.specs.Context.{ModuleContext, Context, context}
-use Rattle.meaning.specs.Statement.{contextAfter, statementErrors, statementSlots}
+use Rattle.meaning.specs.Context.{Context}
+use Rattle.meaning.specs.Statement.{statementErrors, statementSlots}
 use Rattle.meaning.specs.Divergence.{doAllPathsDiverge}
 use Rattle.fallible.specs.Operands.{isTypeOperand, operandSort}
 use Rattle.state.specs.declared.State.{State}
 use Rattle.state.specs.Effect.{reporting}
-use Rattle.state.specs.Represents.{Lent, lent, Good, SpellsOperand, Scope, Typing}
+use Rattle.state.specs.Represents.{Lent, lent, Good, SpellsOperand, Typing}
 use Rattle.state.specs.Post.{Walked}
 use Rattle.state.proofs.Laws.{scope-later, typing-later}
 use Rattle.state.proofs.Walks.{walked-none, walked-as, typing-void}
@@ -35,7 +35,6 @@ use Rattle.rules.proofs.Exits.{same-rows}
 use Rattle.expression.proofs.Visits.{visit-steps}
 use Rattle.compound.proofs.Compounds.{told-then}
 use Rattle.statement.specs.Post.{Inside, StatementCheckedAt}
-use Rattle.statement.proofs.Contexts.{after-kept}
 use Rattle.items.specs.Post.{BodyLeft, BodyChecked}
 
 -- Whether void itself is returned, and whether all paths diverge
@@ -55,42 +54,43 @@ is-void {C} {r} {t} g ty p =
 
 module _ {s : List ℕ} {d body stop : ℕ} (left : BodyLeft s d body stop) where
   -- No body
+  pub no-body : stop ≤ body → bodyAt s d body stop ≡ none
+  no-body p =
+      let here : body ≡ stop = omega (arith, left .fine .part .starts) in
+      ap (λ (x : ℕ). bodyAt s d x stop) here ∙ parameters-none s d stop .1
+
   pub body-none : {names : BuiltIns} {at returned : ℕ} {C : Lent} → Ready s C → stop ≤ body → BodyChecked s names (bodyAt s d body stop) at body stop returned C C
   body-none {names} {at} {returned} {C} ready p =
-      let here : body ≡ stop = omega (arith, left .fine .part .starts) in
-      let tree : bodyAt s d body stop ≡ none = ap (λ (x : ℕ). bodyAt s d x stop) here ∙ parameters-none s d stop .1 in
-      subst (λ (t : Option Statement). BodyChecked s names t at body stop returned C C) (sym tree)
+      subst (λ (t : Option Statement). BodyChecked s names t at body stop returned C C) (sym (no-body p))
       (record {
         wide = refl;
         walked = walked-as (walked-none (ready .good)) (λ ctx. visit-steps [] [] 0 (stop - body) (omega arith));
-        scope = λ ctx h. (ctx .inFunction, h .resolves .scope);
+        scope = λ ctx h. h .resolves .scope;
       })
 
   module _ (more : body < stop) where
-    there : BodyAt s d body stop
+    pub there : BodyAt s d body stop
     there = body-at s d body stop more (left .fine) (left .last more)
 
     pub body-fine : FineRecord s d body (length s) aStatement
     body-fine = there .fine
 
-    pub body-checked : {names : BuiltIns} {at returned : ℕ} {C : Lent} {work o e w : List ℕ} {st : State} → StatementCheckedAt s names d body returned C (lent work o e w st)
+    pub body-checked : {names : BuiltIns} {at returned : ℕ} {C : Lent} {work o e w ix : List ℕ} {st : State} → StatementCheckedAt s names d body returned C (lent work o e w ix st)
         → {holds : Bool} → holds ≡ (eqb returned 2 || doAllPathsDiverge (statementAt s d body)) → {name : ℕ} → Read (wordAt s (at + 16)) 32 name
         → {e′ : List ℕ} {st′ : State} → ReportedUnless holds (errorFor s at 6 name 0 0) e st e′ st′
-        → BodyChecked s names (bodyAt s d body stop) at body stop returned C (lent work o e′ w st′)
+        → BodyChecked s names (bodyAt s d body stop) at body stop returned C (lent work o e′ w ix st′)
     unfolding SpellsOperand isTypeOperand operandSort
-    body-checked {names} {at} {returned} {C} {work} {o} {e} {w} {st} h {holds} test {name} read {e′} {st′} report =
-        subst (λ (x : Option Statement). BodyChecked s names x at body stop returned C (lent work o e′ w st′)) (sym (there .body))
-        (subst (λ (x : ℕ). BodyChecked s names (some t) at body x returned C (lent work o e′ w st′)) (there .stops)
+    body-checked {names} {at} {returned} {C} {work} {o} {e} {w} {ix} {st} h {holds} test {name} read {e′} {st′} report =
+        subst (λ (x : Option Statement). BodyChecked s names x at body stop returned C (lent work o e′ w ix st′)) (sym (there .body))
+        (subst (λ (x : ℕ). BodyChecked s names (some t) at body x returned C (lent work o e′ w ix st′)) (there .stops)
         (record {
           wide = h .wide;
           walked = told-then (λ ctx. statementSlots ctx t) (λ ctx. statementErrors ctx t) (λ ctx. unless (test-of ctx) error) (h .walked) own (λ ctx g. g) (omega arith);
-          scope = λ ctx g.
-              let later = contextAfter ctx t in
-              (later .inFunction, subst (λ (x : ModuleContext). Scope (lent work o e′ w st′) (context x (later .inFunction))) (after-kept t ctx .inModule) (scope-later (own .grew) (h .scope ctx g)));
+          scope = λ ctx g. scope-later (own .grew) (h .scope ctx g);
         }))
       where
         B : Lent
-        B = lent work o e w st
+        B = lent work o e w ix st
 
         t : Statement
         t = statementAt s d body
@@ -101,7 +101,7 @@ module _ {s : List ℕ} {d body stop : ℕ} (left : BodyLeft s d body stop) wher
         error : TypeError
         error = pathsWithoutReturn (locationAt s at) (wordAt s (at + 16))
 
-        own : Walked (Inside s names C returned) (λ ctx. reporting (unless (test-of ctx) error)) body (stopAt s body) B (lent work o e′ w st′)
+        own : Walked (Inside s names C returned) (λ ctx. reporting (unless (test-of ctx) error)) body (stopAt s body) B (lent work o e′ w ix st′)
         own =
             walked-unless (h .walked .grew .good) test-of (λ ctx. error) report
             (λ ctx g p. test ∙ ap (λ (b : Bool). b || doAllPathsDiverge t) (is-void (h .walked .grew .good) (typing-later (h .walked .grew) (g .returns)) p))

@@ -3,7 +3,7 @@ use Prim.Native.Nat.{ℕ, _+_, _-_, _≤_}
 use mathlib.Core.Path.{_≡_, refl, sym, ap, _∙_, subst}
 use mathlib.Core.Bool.{Bool, true, _||_, or-comm}
 use mathlib.Core.List.{List, _++_, map, map-append, List·Permᴰ·append-comm, Permᴰ·append-right, Permᴰ·map}
-use mathlib.Core.Option.{Option}
+use mathlib.Core.Option.{Option, none, some}
 use native.Mathlib.Omega.{arith}
 use lib.ListN.{length}
 use Rattle.types.specs.Ty.{Ty, member, parts}
@@ -20,12 +20,12 @@ use Rattle.node.proofs.Open.{opened}
 use Rattle.node.proofs.TypeTrees.{TypeRoom}
 use Rattle.node.proofs.ItemTrees.{FunctionAt, item-function}
 use Rattle.meaning.specs.TypeError.{TypeError}
-use Rattle.meaning.specs.Context.{ModuleContext, each}
+use Rattle.meaning.specs.Context.{TypeMap, noTypes, ModuleContext, Context, context, blank, each}
 use Rattle.meaning.specs.Convert.{Slot, conversionErrors, conversionSlots}
 use Rattle.meaning.specs.Module.{slotType, parameterErrors, parameterSlots, functionContext, bodyErrors, bodySlots, itemErrors, itemSlots}
 use Rattle.state.specs.declared.State.{State}
 use Rattle.state.specs.Effect.{Effect, nothing, _then_, Shown}
-use Rattle.state.specs.Represents.{Lent, lent, Grew}
+use Rattle.state.specs.Represents.{Lent, lent, Grew, Scope}
 use Rattle.state.specs.Post.{Walked}
 use Rattle.state.proofs.Sets.{each-append}
 use Rattle.state.proofs.Laws.{scope-later, then-nothing}
@@ -34,7 +34,9 @@ use Rattle.convert.specs.Convert.{Resolves, storeSlot, visiting}
 use Rattle.convert.specs.Post.{Ready, Converted}
 use Rattle.expression.proofs.Visits.{visit-then}
 use Rattle.statement.specs.Post.{Inside}
-use Rattle.items.specs.Post.{Outside, knowing, ParametersChecked, BodyChecked, Cleared, ItemChecked, ItemCheckedAt}
+use Rattle.locals.specs.Cleared.{parameterNames, bodyNames}
+use Rattle.locals.proofs.Names.{Declares, after-declares, no-argument}
+use Rattle.items.specs.Post.{Outside, knowing, ParametersChecked, afterBody, BodyChecked, FunctionCleared, ItemChecked, ItemCheckedAt}
 use Rattle.items.proofs.Locals.{cleared-walked, cleared-scope}
 
 -- The order of slots is free
@@ -83,6 +85,12 @@ function-shown m l name returned ps body i j k n few =
     ∙ visit-then (a ++ b) c (e ++ f) g (i + j) k))
     (visit-swapped a b c (e ++ f ++ g) (i + j + k) n few)
 
+-- A body, or nothing, leaves the names that it does not declare
+body-declares : (tree : Option Statement) (ctx : Context) → Declares (bodyNames tree) ctx (afterBody ctx tree)
+unfolding bodyNames
+body-declares none ctx = record { inModule = refl; arguments = refl; variables = λ n h. refl }
+body-declares (some t) ctx = after-declares t ctx
+
 -- The bytes of a function or a variable: its type stands first
 pub record DeclaredRoom (s : List ℕ) (d at : ℕ) : Type 0 where
   pub deep : 1 ≤ d
@@ -114,12 +122,12 @@ module _ {s : List ℕ} {d at : ℕ} (fine : FineRecord s d at (length s) anItem
     pub returned-fine : FineRecord s (d - 1) start (length s) aType
     returned-fine = subst (λ (x : ℕ). FineRecord s (d - 1) x (length s) aType) (sym is-start) (function .parts .type)
 
-    pub function-checked : {names : BuiltIns} {body r : ℕ} {A : Lent} {work o e w o₁ e₁ w₁ work₂ o₂ e₂ w₂ work′ : List ℕ} {st st₁ st₂ : State}
-        → ParametersChecked s names (d - 1) from stop body A (lent work o e w st)
-        → Converted s names (typeAt s (d - 1) start) start (stopAt s start) true (lent work o e w st) (lent work o₁ e₁ w₁ st₁) r
-        → BodyChecked s names (bodyAt s (d - 1) body stop) at body stop r (lent work o₁ e₁ w₁ st₁) (lent work₂ o₂ e₂ w₂ st₂)
-        → Cleared work₂ work′ → ItemCheckedAt s names d at A (lent work′ o₂ e₂ w₂ st₂)
-    function-checked {names} {body} {r} {A} {work} {o} {e} {w} {o₁} {e₁} {w₁} {work₂} {o₂} {e₂} {w₂} {work′} {st} {st₁} {st₂} first second third cleared =
+    pub function-checked : {names : BuiltIns} {body r : ℕ} {A : Lent} {work o e w o₁ e₁ w₁ work₂ o₂ e₂ w₂ work′ ix ix₁ ix₂ : List ℕ} {st st₁ st₂ : State}
+        → ParametersChecked s names (d - 1) from stop body A (lent work o e w ix st)
+        → Converted s names (typeAt s (d - 1) start) start (stopAt s start) true (lent work o e w ix st) (lent work o₁ e₁ w₁ ix₁ st₁) r
+        → BodyChecked s names (bodyAt s (d - 1) body stop) at body stop r (lent work o₁ e₁ w₁ ix₁ st₁) (lent work₂ o₂ e₂ w₂ ix₂ st₂)
+        → FunctionCleared (parameterNames (parametersAt s (d - 1) from stop)) (bodyNames (bodyAt s (d - 1) body stop)) work₂ work′ → ItemCheckedAt s names d at A (lent work′ o₂ e₂ w₂ ix₂ st₂)
+    function-checked {names} {body} {r} {A} {work} {o} {e} {w} {o₁} {e₁} {w₁} {work₂} {o₂} {e₂} {w₂} {work′} {ix} {ix₁} {ix₂} {st} {st₁} {st₂} first second third cleared =
         subst (λ (x : Item). ItemChecked s names x at (stopAt s at) A E) (sym tree)
         (record {
           wide = cleared .wide ∙ third .wide ∙ first .wide;
@@ -127,20 +135,25 @@ module _ {s : List ℕ} {d at : ℕ} (fine : FineRecord s d at (length s) anItem
               walked-as
               (walked-then (walked-then (walked-then one two known) three inside) (cleared-walked cleared (three .grew .good)) (λ m h. h))
               (λ m. function-shown m here name returned ps (bodyAt s (d - 1) body stop) (body - from) (stopAt s start - start) (stop - body) (stopAt s at - at) (omega (arith, room .type, is-type, below, first .low)));
-          scope = λ m h. let l = third .scope (functionContext m returned ps) (inside m h) in cleared-scope cleared m (l .0) (l .1);
+          scope = λ m h.
+              let ctx = functionContext m returned ps in
+              let after = body-declares (bodyAt s (d - 1) body stop) ctx in
+              subst (λ (x : ModuleContext). Scope E (context x blank)) (after .inModule)
+              (cleared-scope cleared (afterBody ctx (bodyAt s (d - 1) body stop)) (third .scope ctx (inside m h)) (λ n q. after .variables n q)
+              (λ n q. ap (λ (x : TypeMap). x n) (after .arguments) ∙ no-argument m ps noTypes n q));
         })
       where
         B : Lent
-        B = lent work o e w st
+        B = lent work o e w ix st
 
         C : Lent
-        C = lent work o₁ e₁ w₁ st₁
+        C = lent work o₁ e₁ w₁ ix₁ st₁
 
         D : Lent
-        D = lent work₂ o₂ e₂ w₂ st₂
+        D = lent work₂ o₂ e₂ w₂ ix₂ st₂
 
         E : Lent
-        E = lent work′ o₂ e₂ w₂ st₂
+        E = lent work′ o₂ e₂ w₂ ix₂ st₂
 
         here : Location
         here = locationAt s at

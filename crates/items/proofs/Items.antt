@@ -51,13 +51,13 @@ module _ {s : List ℕ} {d at : ℕ} (fine : FineRecord s d at (length s) anItem
   pub alias : kindAt s at ≡ 81 → AliasAt s d at (length s) fine
   alias k = item-alias s d at (length s) fine k
 
-  pub alias-checked : kindAt s at ≡ 81 → {names : BuiltIns} {work o e w o′ e′ w′ : List ℕ} {st st′ : State} {r : ℕ}
-      → Converted s names (typeAt s (d - 1) (at + 24)) (at + 24) (stopAt s (at + 24)) true (lent work o e w st) (lent work o′ e′ w′ st′) r
-      → ItemCheckedAt s names d at (lent work o e w st) (lent work o′ e′ w′ st′)
+  pub alias-checked : kindAt s at ≡ 81 → {names : BuiltIns} {work o e w o′ e′ w′ ix ix′ : List ℕ} {st st′ : State} {r : ℕ}
+      → Converted s names (typeAt s (d - 1) (at + 24)) (at + 24) (stopAt s (at + 24)) true (lent work o e w ix st) (lent work o′ e′ w′ ix′ st′) r
+      → ItemCheckedAt s names d at (lent work o e w ix st) (lent work o′ e′ w′ ix′ st′)
   unfolding itemSlots itemErrors
-  alias-checked k {names} {work} {o} {e} {w} {o′} {e′} {w′} {st} {st′} h =
-      let A = lent work o e w st in
-      let C = lent work o′ e′ w′ st′ in
+  alias-checked k {names} {work} {o} {e} {w} {o′} {e′} {w′} {ix} {ix′} {st} {st′} h =
+      let A = lent work o e w ix st in
+      let C = lent work o′ e′ w′ ix′ st′ in
       let p = alias k in
       let t = typeAt s (d - 1) (at + 24) in
       subst (λ (x : Item). ItemChecked s names x at (stopAt s at) A C) (sym (p .is))
@@ -86,15 +86,15 @@ module _ {s : List ℕ} {d at : ℕ} (fine : FineRecord s d at (length s) anItem
           subst (λ (x : ℕ). FineList s (d - 1) x stop holds.InitialValue) (sym is-value)
           (subst (λ (x : ℕ). FineList s (d - 1) (stopAt s (at + 20)) x holds.InitialValue) (sym is-stop) (variable .parts .rest))
 
-      pub variable-checked : {names : BuiltIns} {r : ℕ} {work o e w o₁ e₁ w₁ o′ e′ w′ : List ℕ} {st st₁ st′ : State}
-          → Converted s names (typeAt s (d - 1) start) start (stopAt s start) true (lent work o e w st) (lent work o₁ e₁ w₁ st₁) r
-          → InitialCheckedAt s names (d - 1) value stop false r (lent work o₁ e₁ w₁ st₁) (lent work o′ e′ w′ st′)
-          → ItemCheckedAt s names d at (lent work o e w st) (lent work o′ e′ w′ st′)
+      pub variable-checked : {names : BuiltIns} {r : ℕ} {work o e w o₁ e₁ w₁ o′ e′ w′ ix ix₁ ix′ : List ℕ} {st st₁ st′ : State}
+          → Converted s names (typeAt s (d - 1) start) start (stopAt s start) true (lent work o e w ix st) (lent work o₁ e₁ w₁ ix₁ st₁) r
+          → InitialCheckedAt s names (d - 1) value stop false r (lent work o₁ e₁ w₁ ix₁ st₁) (lent work o′ e′ w′ ix′ st′)
+          → ItemCheckedAt s names d at (lent work o e w ix st) (lent work o′ e′ w′ ix′ st′)
       unfolding itemSlots itemErrors
-      variable-checked {names} {r} {work} {o} {e} {w} {o₁} {e₁} {w₁} {o′} {e′} {w′} {st} {st₁} {st′} first second =
-          let A = lent work o e w st in
-          let B = lent work o₁ e₁ w₁ st₁ in
-          let C = lent work o′ e′ w′ st′ in
+      variable-checked {names} {r} {work} {o} {e} {w} {o₁} {e₁} {w₁} {o′} {e′} {w′} {ix} {ix₁} {ix′} {st} {st₁} {st′} first second =
+          let A = lent work o e w ix st in
+          let B = lent work o₁ e₁ w₁ ix₁ st₁ in
+          let C = lent work o′ e′ w′ ix′ st′ in
           let room = variable-room in
           let here = locationAt s at in
           let name = wordAt s (at + 16) in

@@ -1,5 +1,5 @@
-pub mod Locals
 pub mod Parameters
 pub mod Bodies
+pub mod Locals
 pub mod Functions
 pub mod Items

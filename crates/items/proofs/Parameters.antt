@@ -117,9 +117,9 @@ module _ (s : List ℕ) (names : BuiltIns) (d from end : ℕ) where
         pub parameter : k ≡ 85 → ParameterAt s d at end
         parameter e = parameter-at s d at end more (c .fine) (sym (read .is) ∙ e)
 
-  module _ {at : ℕ} {A : Lent} {work o e w : List ℕ} {st : State} (c : Entering at A (lent work o e w st)) (p : ParameterAt s d at end) where
+  module _ {at : ℕ} {A : Lent} {work o e w ix : List ℕ} {st : State} (c : Entering at A (lent work o e w ix st)) (p : ParameterAt s d at end) where
     abbrev C : Lent
-    C = lent work o e w st
+    C = lent work o e w ix st
 
     abbrev now : Parameter
     now = record { name = wordAt s (at + 16); type = typeAt s (d - 1) (at + 20) }
@@ -127,19 +127,19 @@ module _ (s : List ℕ) (names : BuiltIns) (d from end : ℕ) where
     pub entering-room : wordPlace (wordAt s (at + 16)) 3 < length work
     entering-room = omega (arith, p .named, c .ready .wide)
 
-    pub entering-on : {o₁ e₁ w₁ : List ℕ} {st₁ : State} {r : ℕ}
-        → Converted s names (typeAt s (d - 1) (at + 20)) (at + 20) (stopAt s (at + 20)) true C (lent work o₁ e₁ w₁ st₁) r
+    pub entering-on : {o₁ e₁ w₁ ix₁ : List ℕ} {st₁ : State} {r : ℕ}
+        → Converted s names (typeAt s (d - 1) (at + 20)) (at + 20) (stopAt s (at + 20)) true C (lent work o₁ e₁ w₁ ix₁ st₁) r
         → (name : ℕ) → Read (wordAt s (at + 16)) 32 name → (work′ : List ℕ) → work′ ≡ set work (wordPlace name 3) r
-        → (next : ℕ) → next ≡ stopAt s at → Entering next A (lent work′ o₁ e₁ w₁ st₁)
-    entering-on {o₁} {e₁} {w₁} {st₁} {r} h name read work′ q next is =
-        subst (λ (x : ℕ). Entering x A (lent work′ o₁ e₁ w₁ st₁)) (sym is)
-        (subst (λ (x : List ℕ). Entering (stopAt s at) A (lent x o₁ e₁ w₁ st₁)) (sym (q ∙ ap (λ (x : ℕ). set work (wordPlace x 3) r) (read .is))) on)
+        → (next : ℕ) → next ≡ stopAt s at → Entering next A (lent work′ o₁ e₁ w₁ ix₁ st₁)
+    entering-on {o₁} {e₁} {w₁} {ix₁} {st₁} {r} h name read work′ q next is =
+        subst (λ (x : ℕ). Entering x A (lent work′ o₁ e₁ w₁ ix₁ st₁)) (sym is)
+        (subst (λ (x : List ℕ). Entering (stopAt s at) A (lent x o₁ e₁ w₁ ix₁ st₁)) (sym (q ∙ ap (λ (x : ℕ). set work (wordPlace x 3) r) (read .is))) on)
       where
         n : ℕ
         n = wordAt s (at + 16)
 
         D : Lent
-        D = lent work o₁ e₁ w₁ st₁
+        D = lent work o₁ e₁ w₁ ix₁ st₁
 
         given : (m : ModuleContext) → Outside s names A m → Resolves s names C (knowing m (c .done))
         given m g = record { scope = c .scope m g; builtIns = g .builtIns }
@@ -150,7 +150,7 @@ module _ (s : List ℕ) (names : BuiltIns) (d from end : ℕ) where
         type : Walked (λ m. Resolves s names C (knowing m (c .done))) (λ m. visiting true (parameterSlots m now) (parameterErrors m now) (stopAt s (at + 20) - (at + 20))) from stop C D
         type = walked-wider (omega (arith, c .low)) (omega (arith, p .stops)) (walked-at (λ (m : ModuleContext). knowing m (c .done)) (h .walked .walked))
 
-        argument : Walked (Outside s names A) (λ m. nothing) from stop D (lent (set work (wordPlace n 3) r) o₁ e₁ w₁ st₁)
+        argument : Walked (Outside s names A) (λ m. nothing) from stop D (lent (set work (wordPlace n 3) r) o₁ e₁ w₁ ix₁ st₁)
         argument = walked-set n 3 r entering-room (type .grew .good) (record { either = inr (h .walked .is) })
 
         effects : (m : ModuleContext) → visits (c .done) (at - from) m then visiting true (parameterSlots m now) (parameterErrors m now) (stopAt s (at + 20) - (at + 20)) then nothing
@@ -163,7 +163,7 @@ module _ (s : List ℕ) (names : BuiltIns) (d from end : ℕ) where
         high : at + 20 ≤ stop
         high = omega (arith, p .room .head)
 
-        on : Entering stop A (lent (set work (wordPlace n 3) r) o₁ e₁ w₁ st₁)
+        on : Entering stop A (lent (set work (wordPlace n 3) r) o₁ e₁ w₁ ix₁ st₁)
         on =
             record {
               low = omega (arith, c .low, high);
@@ -183,6 +183,6 @@ module _ (s : List ℕ) (names : BuiltIns) (d from end : ℕ) where
                   (λ m. visit-steps (each (parameterSlots m) (c .done ++ (now ∷ []))) (each (parameterErrors m) (c .done ++ (now ∷ []))) (at - from + (stopAt s (at + 20) - (at + 20))) (stop - from)
                   (omega (arith, c .low, high, p .stops)));
               scope = λ m g.
-                  subst (λ (x : TypeMap). Scope (lent (set work (wordPlace n 3) r) o₁ e₁ w₁ st₁) (context m (record { variables = noTypes; arguments = x; returnType = void }))) (sym (argument-last m (c .done) now))
+                  subst (λ (x : TypeMap). Scope (lent (set work (wordPlace n 3) r) o₁ e₁ w₁ ix₁ st₁) (context m (record { variables = noTypes; arguments = x; returnType = void }))) (sym (argument-last m (c .done) now))
                   (scope-argument n r (convertNodeType m (now .type)) (knowing m (c .done)) (scope-later (h .walked .walked .grew) (c .scope m g)) (h .walked .typing (knowing m (c .done)) (given m g)) entering-room);
             }

@@ -3,7 +3,8 @@ use Prim.Native.Nat.{ℕ, _+_, _-_, _%_, _≤_, _<_}
 use mathlib.Core.Path.{_≡_}
 use mathlib.Core.Bool.{true}
 use mathlib.Core.List.{List}
-use mathlib.Core.Option.{Option}
+use mathlib.Core.Option.{Option, none, some}
+use mathlib.Core.Logic.{_⊎_}
 use lib.ListN.{length, getD}
 use Rattle.types.specs.Ty.{void}
 use Rattle.shape.specs.declared.Holds.the-variants.{Parameters}
@@ -13,13 +14,16 @@ use Rattle.node.specs.Fine.{FineList}
 use Rattle.node.specs.Tree.{Statement, Parameter, Item}
 use Rattle.node.specs.Record.{locationAt, parametersAt, bodyAt, itemTreeAt}
 use Rattle.node.specs.declared.names.BuiltIns.{BuiltIns}
-use Rattle.meaning.specs.Context.{noTypes, ModuleContext, LocalContext, Context, context, blank, each}
+use Rattle.meaning.specs.Context.{noTypes, ModuleContext, Context, context, blank, each}
+use Rattle.meaning.specs.Statement.{contextAfter}
 use Rattle.meaning.specs.Module.{parameterErrors, parameterSlots, argumentMap, bodyErrors, bodySlots, itemErrors, itemSlots}
 use Rattle.meaning.specs.Promise.{workWidth}
+use Rattle.state.specs.Words.{wordPlace}
 use Rattle.state.specs.Represents.{Lent, Scope}
 use Rattle.state.specs.Post.{Walked}
 use Rattle.convert.specs.Convert.{Resolves, visiting}
 use Rattle.statement.specs.Post.{Inside}
+use Rattle.locals.specs.Cleared.{isAmong}
 use Rattle.places.specs.Absolute.{itemsAt}
 
 -- Outside of functions: the working words hold the context of the module, and no local or argument
@@ -45,18 +49,31 @@ pub record ParametersChecked (s : List ℕ) (names : BuiltIns) (depth from end b
       (λ m. visiting true (each (parameterSlots m) (parametersAt s depth from end)) (each (parameterErrors m) (parametersAt s depth from end)) (body - from)) from body C C′
   pub scope : (m : ModuleContext) → Outside s names C m → Scope C′ (knowing m (parametersAt s depth from end))
 
--- The body of the function at `at`, or nothing, was checked: its effect, and the context of the module is as it was
+-- The context after a body, or after nothing
+abbrev pub afterBody : Context → Option Statement → Context
+afterBody ctx none = ctx
+afterBody ctx (some t) = contextAfter ctx t
+
+-- The body of the function at `at`, or nothing, was checked: its effect, and the context that the working words hold then
 pub record BodyChecked (s : List ℕ) (names : BuiltIns) (tree : Option Statement) (at body stop returned : ℕ) (C C′ : Lent) : Type 0 where
   pub wide : length (C′ .work) ≡ length (C .work)
   pub walked : Walked (Inside s names C returned)
       (λ ctx. visiting true (bodySlots ctx tree) (bodyErrors ctx (locationAt s at) (wordAt s (at + 16)) tree) (stop - body)) body stop C C′
-  pub scope : (ctx : Context) → Inside s names C returned ctx → (l : LocalContext) × Scope C′ (context (ctx .inModule) l)
+  pub scope : (ctx : Context) → Inside s names C returned ctx → Scope C′ (afterBody ctx tree)
 
 -- The words of locals and arguments are 0, the others as they were
 pub record Cleared (work work′ : List ℕ) : Type 0 where
   pub wide : length work′ ≡ length work
   pub kept : (i : ℕ) → i % workWidth < 2 → getD work′ i 0 ≡ getD work i 0
   pub zeros : (i : ℕ) → 2 ≤ i % workWidth → getD work′ i 0 ≡ 0
+
+-- The words of a function's arguments and locals are cleared. Every word is 0 or as it was; those of globals and aliases are as they were
+pub record FunctionCleared (arguments locals work work′ : List ℕ) : Type 0 where
+  pub wide : length work′ ≡ length work
+  pub either : (i : ℕ) → (getD work′ i 0 ≡ 0) ⊎ (getD work′ i 0 ≡ getD work i 0)
+  pub kept : (name which : ℕ) → which < 2 → getD work′ (wordPlace name which) 0 ≡ getD work (wordPlace name which) 0
+  pub noLocals : (name : ℕ) → isAmong name locals ≡ true → getD work′ (wordPlace name 2) 0 ≡ 0
+  pub noArguments : (name : ℕ) → isAmong name arguments ≡ true → getD work′ (wordPlace name 3) 0 ≡ 0
 
 -- An item from `at` to `stop` was checked: its effect, and no local or argument is left in the working words
 pub record ItemChecked (s : List ℕ) (names : BuiltIns) (item : Item) (at stop : ℕ) (C C′ : Lent) : Type 0 where

@@ -7,21 +7,24 @@ use node::bytes::length_at;
 use node::bytes::word;
 use node::names::BuiltIns;
 use state::State;
-ghost use Prim.Native.Nat.{_+_, _≤_};
+ghost use Prim.Native.Nat.{_+_, _*_, _≤_};
 ghost use mathlib.Core.Path.{_≡_};
 ghost use mathlib.Core.Bool.{_||_};
 ghost use lib.Dec.{eqb};
 ghost use lib.ListN.{length};
 ghost use Rattle.shape.specs.Shape.{aStatement, anItem};
 ghost use Rattle.shape.specs.declared.Holds.the-variants.{Parameters, Items};
+ghost use Rattle.node.specs.Names.{nameCount};
 ghost use Rattle.node.specs.Layout.{kindAt};
 ghost use Rattle.node.specs.Fine.{FineRecord, FineList};
-ghost use Rattle.node.specs.Record.{statementAt, bodyAt};
+ghost use Rattle.node.specs.Record.{statementAt, parametersAt, bodyAt};
 ghost use Rattle.relations.specs.Entry.{OneType};
 ghost use Rattle.meaning.specs.Divergence.{doAllPathsDiverge};
+ghost use Rattle.meaning.specs.Promise.{workWidth};
 ghost use Rattle.state.specs.Represents.{lent};
 ghost use Rattle.convert.specs.Post.{Ready};
-ghost use Rattle.items.specs.Post.{ParametersChecked, BodyLeft, BodyChecked, Cleared, ItemCheckedAt, ItemsCheckedAt};
+ghost use Rattle.locals.specs.Cleared.{parameterNames, bodyNames};
+ghost use Rattle.items.specs.Post.{ParametersChecked, BodyLeft, BodyChecked, Cleared, FunctionCleared, ItemCheckedAt, ItemsCheckedAt};
 
 // Kinds of records.
 const FUNCTION: u32 = 80;
@@ -56,11 +59,12 @@ fn type_check_parameters(
     output: &mut [u8],
     errors: &mut [u32],
     rows: &mut [u32],
+    buckets: &mut [u16; lookup::LENGTH],
     state: State,
 ) -> Entered
     requires { ⌜ FineList (now s) depth from end Parameters ⌝ }
-    requires { ⌜ Ready (now s) (lent (now work) (now output) (now errors) (now rows) state) ⌝ }
-    ensures { λ r. ⌜ ParametersChecked (now (s .entry)) names depth from end (r .body) (lent (now (work .entry)) (now (output .entry)) (now (errors .entry)) (now (rows .entry)) state) (lent (now (work .exit)) (now (output .exit)) (now (errors .exit)) (now (rows .exit)) (r .state)) ⌝ }
+    requires { ⌜ Ready (now s) (lent (now work) (now output) (now errors) (now rows) (now buckets) state) ⌝ }
+    ensures { λ r. ⌜ ParametersChecked (now (s .entry)) names depth from end (r .body) (lent (now (work .entry)) (now (output .entry)) (now (errors .entry)) (now (rows .entry)) (now (buckets .entry)) state) (lent (now (work .exit)) (now (output .exit)) (now (errors .exit)) (now (rows .exit)) (now (buckets .exit)) (r .state)) ⌝ }
 {
     let mut at = from;
     let mut next = state;
@@ -80,6 +84,7 @@ fn type_check_parameters(
             output,
             errors,
             rows,
+            buckets,
             next,
         );
         let name = word(s, at + NAME);
@@ -117,11 +122,12 @@ fn type_check_body(
     output: &mut [u8],
     errors: &mut [u32],
     rows: &mut [u32],
+    buckets: &mut [u16; lookup::LENGTH],
     state: State,
 ) -> State
     requires { ⌜ (at + 20 ≤ length (now s)) × BodyLeft (now s) depth body stop ⌝ }
-    requires { ⌜ Ready (now s) (lent (now work) (now output) (now errors) (now rows) state) × OneType (now rows) (state .rows) returned ⌝ }
-    ensures { λ r. ⌜ BodyChecked (now (s .entry)) names (bodyAt (now (s .entry)) depth body stop) at body stop returned (lent (now (work .entry)) (now (output .entry)) (now (errors .entry)) (now (rows .entry)) state) (lent (now (work .exit)) (now (output .exit)) (now (errors .exit)) (now (rows .exit)) r) ⌝ }
+    requires { ⌜ Ready (now s) (lent (now work) (now output) (now errors) (now rows) (now buckets) state) × OneType (now rows) (state .rows) returned ⌝ }
+    ensures { λ r. ⌜ BodyChecked (now (s .entry)) names (bodyAt (now (s .entry)) depth body stop) at body stop returned (lent (now (work .entry)) (now (output .entry)) (now (errors .entry)) (now (rows .entry)) (now (buckets .entry)) state) (lent (now (work .exit)) (now (output .exit)) (now (errors .exit)) (now (rows .exit)) (now (buckets .exit)) r) ⌝ }
 {
     if stop <= body {
         return state;
@@ -136,6 +142,7 @@ fn type_check_body(
         output,
         errors,
         rows,
+        buckets,
         state,
     );
     let name = word(s, at + NAME);
@@ -143,18 +150,37 @@ fn type_check_body(
     rules::report_unless(holds, s, at, PATHS_WITHOUT_RETURN, name, 0, 0, errors, next)
 }
 
-// Clears the words of locals and arguments of every name, which stand side by side.
+// Clears the words of locals and arguments of all names, which stand side by side.
 fn clear_locals(work: &mut [u32])
     ensures { λ _. ⌜ Cleared (now (work .entry)) (now (work .exit)) ⌝ }
 {
     let mut i = state::LOCAL;
-    while i < work.len() {
+    while i + 1 < work.len() {
         work[i] = 0;
-        if i + 1 < work.len() {
-            work[i + 1] = 0;
-        }
+        work[i + 1] = 0;
         i += state::WORK_WIDTH;
     }
+    if i < work.len() {
+        work[i] = 0;
+    }
+}
+
+// Clears the words of a function's arguments and locals: the body at `body` and the parameters before it lie from `from` to `stop`.
+// Where the words are no more than these bytes, those of all names are cleared, else those of the names declared there.
+fn clear_function(s: &[u8], from: usize, body: usize, stop: usize, depth: usize, work: &mut [u32])
+    requires { ⌜ FineList (now s) depth from stop Parameters × BodyLeft (now s) depth body stop ⌝ }
+    requires { ⌜ workWidth * nameCount (now s) ≤ length (now work) ⌝ }
+    ensures { λ _. ⌜ FunctionCleared (parameterNames (parametersAt (now (s .entry)) depth from stop)) (bodyNames (bodyAt (now (s .entry)) depth body stop)) (now (work .entry)) (now (work .exit)) ⌝ }
+{
+    if work.len() <= stop - from {
+        clear_locals(work);
+        return;
+    }
+    locals::clear_parameters(s, from, stop, depth, work);
+    if stop <= body {
+        return;
+    }
+    locals::clear_statement(s, body, depth, work)
 }
 
 // A function: its parameters, then the type that it returns, then its body.
@@ -167,11 +193,12 @@ fn type_check_function(
     output: &mut [u8],
     errors: &mut [u32],
     rows: &mut [u32],
+    buckets: &mut [u16; lookup::LENGTH],
     state: State,
 ) -> State
     requires { ⌜ FineRecord (now s) depth at (length (now s)) anItem × (kindAt (now s) at ≡ 80) ⌝ }
-    requires { ⌜ Ready (now s) (lent (now work) (now output) (now errors) (now rows) state) ⌝ }
-    ensures { λ r. ⌜ ItemCheckedAt (now (s .entry)) names depth at (lent (now (work .entry)) (now (output .entry)) (now (errors .entry)) (now (rows .entry)) state) (lent (now (work .exit)) (now (output .exit)) (now (errors .exit)) (now (rows .exit)) r) ⌝ }
+    requires { ⌜ Ready (now s) (lent (now work) (now output) (now errors) (now rows) (now buckets) state) ⌝ }
+    ensures { λ r. ⌜ ItemCheckedAt (now (s .entry)) names depth at (lent (now (work .entry)) (now (output .entry)) (now (errors .entry)) (now (rows .entry)) (now (buckets .entry)) state) (lent (now (work .exit)) (now (output .exit)) (now (errors .exit)) (now (rows .exit)) (now (buckets .exit)) r) ⌝ }
 {
     let stop = at + length_at(s, at);
     let start = at + PARTS;
@@ -187,6 +214,7 @@ fn type_check_function(
         output,
         errors,
         rows,
+        buckets,
         state,
     );
     let known = entered.state;
@@ -199,6 +227,7 @@ fn type_check_function(
         output,
         errors,
         rows,
+        buckets,
         known,
     );
     let ready = returned.state;
@@ -214,9 +243,10 @@ fn type_check_function(
         output,
         errors,
         rows,
+        buckets,
         ready,
     );
-    clear_locals(work);
+    clear_function(s, from, entered.body, stop, inner, work);
     next
 }
 
@@ -230,11 +260,12 @@ fn type_check_variable(
     output: &mut [u8],
     errors: &mut [u32],
     rows: &mut [u32],
+    buckets: &mut [u16; lookup::LENGTH],
     state: State,
 ) -> State
     requires { ⌜ FineRecord (now s) depth at (length (now s)) anItem × (kindAt (now s) at ≡ 83) ⌝ }
-    requires { ⌜ Ready (now s) (lent (now work) (now output) (now errors) (now rows) state) ⌝ }
-    ensures { λ r. ⌜ ItemCheckedAt (now (s .entry)) names depth at (lent (now (work .entry)) (now (output .entry)) (now (errors .entry)) (now (rows .entry)) state) (lent (now (work .entry)) (now (output .exit)) (now (errors .exit)) (now (rows .exit)) r) ⌝ }
+    requires { ⌜ Ready (now s) (lent (now work) (now output) (now errors) (now rows) (now buckets) state) ⌝ }
+    ensures { λ r. ⌜ ItemCheckedAt (now (s .entry)) names depth at (lent (now (work .entry)) (now (output .entry)) (now (errors .entry)) (now (rows .entry)) (now (buckets .entry)) state) (lent (now (work .entry)) (now (output .exit)) (now (errors .exit)) (now (rows .exit)) (now (buckets .exit)) r) ⌝ }
 {
     let stop = at + length_at(s, at);
     let start = at + PARTS;
@@ -248,6 +279,7 @@ fn type_check_variable(
         output,
         errors,
         rows,
+        buckets,
         state,
     );
     let value = start + length_at(s, start);
@@ -264,6 +296,7 @@ fn type_check_variable(
         output,
         errors,
         rows,
+        buckets,
         next,
     )
 }
@@ -278,15 +311,27 @@ pub fn type_check_item(
     output: &mut [u8],
     errors: &mut [u32],
     rows: &mut [u32],
+    buckets: &mut [u16; lookup::LENGTH],
     state: State,
 ) -> State
     requires { ⌜ FineRecord (now s) depth at (length (now s)) anItem ⌝ }
-    requires { ⌜ Ready (now s) (lent (now work) (now output) (now errors) (now rows) state) ⌝ }
-    ensures { λ r. ⌜ ItemCheckedAt (now (s .entry)) names depth at (lent (now (work .entry)) (now (output .entry)) (now (errors .entry)) (now (rows .entry)) state) (lent (now (work .exit)) (now (output .exit)) (now (errors .exit)) (now (rows .exit)) r) ⌝ }
+    requires { ⌜ Ready (now s) (lent (now work) (now output) (now errors) (now rows) (now buckets) state) ⌝ }
+    ensures { λ r. ⌜ ItemCheckedAt (now (s .entry)) names depth at (lent (now (work .entry)) (now (output .entry)) (now (errors .entry)) (now (rows .entry)) (now (buckets .entry)) state) (lent (now (work .exit)) (now (output .exit)) (now (errors .exit)) (now (rows .exit)) (now (buckets .exit)) r) ⌝ }
 {
     let kind = half(s, at + 4);
     match kind {
-        FUNCTION => type_check_function(s, names, work, at, depth, output, errors, rows, state),
+        FUNCTION => type_check_function(
+            s,
+            names,
+            work,
+            at,
+            depth,
+            output,
+            errors,
+            rows,
+            buckets,
+            state,
+        ),
         ALIAS => {
             let converted = convert_node_type(
                 s,
@@ -297,11 +342,23 @@ pub fn type_check_item(
                 output,
                 errors,
                 rows,
+                buckets,
                 state,
             );
             converted.state
         }
-        VARIABLE => type_check_variable(s, names, work, at, depth, output, errors, rows, state),
+        VARIABLE => type_check_variable(
+            s,
+            names,
+            work,
+            at,
+            depth,
+            output,
+            errors,
+            rows,
+            buckets,
+            state,
+        ),
         _ => state,
     }
 }
@@ -317,16 +374,28 @@ pub fn type_check_items(
     output: &mut [u8],
     errors: &mut [u32],
     rows: &mut [u32],
+    buckets: &mut [u16; lookup::LENGTH],
     state: State,
 ) -> State
     requires { ⌜ FineList (now s) depth from end Items ⌝ }
-    requires { ⌜ Ready (now s) (lent (now work) (now output) (now errors) (now rows) state) ⌝ }
-    ensures { λ r. ⌜ ItemsCheckedAt (now (s .entry)) names depth from end (lent (now (work .entry)) (now (output .entry)) (now (errors .entry)) (now (rows .entry)) state) (lent (now (work .exit)) (now (output .exit)) (now (errors .exit)) (now (rows .exit)) r) ⌝ }
+    requires { ⌜ Ready (now s) (lent (now work) (now output) (now errors) (now rows) (now buckets) state) ⌝ }
+    ensures { λ r. ⌜ ItemsCheckedAt (now (s .entry)) names depth from end (lent (now (work .entry)) (now (output .entry)) (now (errors .entry)) (now (rows .entry)) (now (buckets .entry)) state) (lent (now (work .exit)) (now (output .exit)) (now (errors .exit)) (now (rows .exit)) (now (buckets .exit)) r) ⌝ }
 {
     let mut at = from;
     let mut next = state;
     while at < end {
-        next = type_check_item(s, names, work, at, depth, output, errors, rows, next);
+        next = type_check_item(
+            s,
+            names,
+            work,
+            at,
+            depth,
+            output,
+            errors,
+            rows,
+            buckets,
+            next,
+        );
         at = at + length_at(s, at);
     }
     next

@@ -7,8 +7,7 @@ use native.Mathlib.Omega.{arith}
 use lib.ListN.{length}
 use borrow.Author.Tests.{eq-eqb}
 use Rattle.types.specs.Ty.{Ty, end, node, is, firstOf, secondOf, cellCount, argumentKind}
-use Rattle.types.specs.Table.{Extends, IsType}
-use Rattle.types.proofs.Grow.{extends-type}
+use Rattle.types.specs.Table.{IsType}
 use Rattle.node.specs.Bytes.{Read, wordAt}
 use Rattle.node.specs.Layout.{stopAt}
 use Rattle.state.specs.Words.{slotPlace, slotEnd}
@@ -45,15 +44,6 @@ first-filled w c s o at stop f p = go (f .listed .many) (f .listed .chain) (f .t
           is = t .0;
           next = record { listed = record { many = n; chain = h .2; long = f .listed .long; few = f .listed .few }; types = t .1; room = f .room };
         }
-
-slot-types-later : (w : List ℕ) (c c′ : ℕ) → Extends w c w c′ → (s o : List ℕ) (n at : ℕ) → SlotTypes w c s o n at → SlotTypes w c′ s o n at
-unfolding SlotTypes
-slot-types-later w c c′ x s o zero at t = tt
-slot-types-later w c c′ x s o (suc n) at t = (extends-type w w c c′ x (wordAt o (slotPlace at)) (t .0), slot-types-later w c c′ x s o n (stopAt s at) (t .1))
-
-pub filled-later : (w : List ℕ) (c c′ : ℕ) → Extends w c w c′ → (s o : List ℕ) (at stop : ℕ) → Filled w c s o at stop → Filled w c′ s o at stop
-filled-later w c c′ x s o at stop f =
-    record { listed = f .listed; types = slot-types-later w c c′ x s o (f .listed .many) at (f .types); room = f .room }
 
 -- What a turn of a loop over the records needs
 module _ (s : List ℕ) (at stop : ℕ) (l : Listed s at stop) (p : at < stop) where

@@ -21,11 +21,11 @@ use Rattle.state.specs.Post.{Reported}
 use Rattle.state.proofs.Laws.{typing-later}
 use Rattle.convert.specs.Post.{errorFor as errorAt}
 use Rattle.rules.specs.Rules.{ReportedUnless}
-use Rattle.rules.proofs.Laws.{spells-at, checks-unless, checks-room, checks-then, gives-checked, reported-always}
+use Rattle.rules.proofs.Laws.{spells-at, checks-unless, checks-room, checks-then, gives-checked, reported-always, unless-rows}
 use Rattle.rules.proofs.Found.{unknown-shown}
 use Rattle.lists.specs.Lists.{Filled, TargetAndCells, BothShown, Shown, Counts, CheckArguments, CheckElements, Call, ArrayCompound}
 use Rattle.lists.proofs.Chains.{shown-later, cells-counted}
-use Rattle.lists.proofs.Turns.{checks-at, unless-rows}
+use Rattle.lists.proofs.Turns.{checks-at}
 
 both-later : {ty : ℕ} {s o : List ℕ} {from stop : ℕ} (C C′ : Lent) (x : TargetAndCells) → Grew C C′ → BothShown ty s o from stop C x → BothShown ty s o from stop C′ x
 both-later {s = s} {o = o} {from = from} {stop = stop} C C′ x g y = record { typing = typing-later g (y .typing); shown = shown-later s o stop C C′ (x .cells) from g (y .shown) }
@@ -56,13 +56,13 @@ module _ (s : List ℕ) (at ty from stop : ℕ) (o w e e′ : List ℕ) (st st�
       gives-checked (λ x. partOf functionKind (x .type)) (λ x. callErrors (locationAt s at) (x .type) (x .cells))
       (checks-room (λ x. notCallable (locationAt s at) (x .type) ∷ []) (λ x. callErrors (locationAt s at) (x .type) (x .cells))
       (checks-unless (λ x. false) (λ x. notCallable (locationAt s at) (x .type)) (reported-always (subst (λ (z : Error). Reported e st z e′ st′) ex rep))
-      (λ work output x y p. refl) (λ work output x y p. spells-at s at 13 (refl, y .typing .shows p) (refl, refl) (refl, refl)))
-      (λ work output x y p. let z : eqb (kindOf (x .type)) 9 ≡ false = other work output x y p in rw z refl))
+      (λ work output ix x y p. refl) (λ work output ix x y p. spells-at s at 13 (refl, y .typing .shows p) (refl, refl) (refl, refl)))
+      (λ work output ix x y p. let z : eqb (kindOf (x .type)) 9 ≡ false = other work output ix x y p in rw z refl))
       (unknown-shown w (st .rows) (one .table) .is)
-      (λ work output x y p. let z : eqb (kindOf (x .type)) 9 ≡ false = other work output x y p in rw z (unknown-shown w (st .rows) (one .table)))
+      (λ work output ix x y p. let z : eqb (kindOf (x .type)) 9 ≡ false = other work output ix x y p in rw z (unknown-shown w (st .rows) (one .table)))
     where
-      other : (work output : List ℕ) (x : TargetAndCells) → BothShown ty s o from stop (lent work output e w st) x → st .full ≡ false → eqb (kindOf (x .type)) 9 ≡ false
-      other work output x y p = ne-eqb (kindOf (x .type)) 9 (λ z. q (ek ∙ ap kindOf (y .typing .shows p .type) ∙ z))
+      other : (work output ix : List ℕ) (x : TargetAndCells) → BothShown ty s o from stop (lent work output e w ix st) x → st .full ≡ false → eqb (kindOf (x .type)) 9 ≡ false
+      other work output ix x y p = ne-eqb (kindOf (x .type)) 9 (λ z. q (ek ∙ ap kindOf (y .typing .shows p .type) ∙ z))
 
   pub called : k ≡ 9 → Filled w (st .rows) s o from stop → (cells : ℕ) → CellPart w (st .rows) ty 13 (secondOf (unfolded w ty)) cells → (expected : ℕ) → expected ≡ cellCount (unfolded w cells)
       → (got : ℕ) → Counts s from stop got → (e₁ : List ℕ) (st₁ : State) → ReportedUnless (eqb expected got) (errorAt s at 11 expected got 0) e st e₁ st₁
@@ -76,33 +76,33 @@ module _ (s : List ℕ) (at ty from stop : ℕ) (o w e e′ : List ℕ) (st st�
       (checks-then (λ x. unless (eqb expected (cellCount (x .cells))) (argumentCount (locationAt s at) expected (cellCount (x .cells))))
       (λ x. argumentErrors (locationAt s at) 1 (unfolded w cells) (x .cells))
       (checks-unless (λ x. eqb expected (cellCount (x .cells))) (λ x. argumentCount (locationAt s at) expected (cellCount (x .cells))) rep
-      (λ work output x y p. ap (eqb expected) (counted s o from stop f got n (lent work output e w st) (x .cells) (y .shown)))
-      (λ work output x y p. spells-at s at 11 (refl, refl) (refl, counted s o from stop f got n (lent work output e w st) (x .cells) (y .shown)) (refl, refl)))
-      (checks-at (λ x. x .cells) (λ arguments. argumentErrors (locationAt s at) 1 (unfolded w cells) arguments) c (λ work output x y. y .shown))
+      (λ work output ix x y p. ap (eqb expected) (counted s o from stop f got n (lent work output e w ix st) (x .cells) (y .shown)))
+      (λ work output ix x y p. spells-at s at 11 (refl, refl) (refl, counted s o from stop f got n (lent work output e w ix st) (x .cells) (y .shown)) (refl, refl)))
+      (checks-at (λ x. x .cells) (λ arguments. argumentErrors (locationAt s at) 1 (unfolded w cells) arguments) c (λ work output ix x y. y .shown))
       both-later)
-      (λ work output x y p.
+      (λ work output ix x y p.
       let t : unfolded w ty ≡ x .type = y .typing .shows p .type in
       let z : eqb (kindOf (x .type)) 9 ≡ true = eq-eqb (kindOf (x .type)) 9 (sym (ap kindOf t) ∙ sym ek ∙ q) in
       let parameters : unfolded w cells ≡ secondOf (x .type) = part .type ∙ ap secondOf t in
       let many : expected ≡ cellCount (secondOf (x .type)) = ee ∙ ap cellCount parameters in
       rw (z, many, parameters) refl))
       (sh .is)
-      (λ work output x y p. record { is = sh .is; type = sh .type ∙ ap (λ (t : Ty). partOf functionKind t) (y .typing .shows p .type) })
+      (λ work output ix x y p. record { is = sh .is; type = sh .type ∙ ap (λ (t : Ty). partOf functionKind t) (y .typing .shows p .type) })
 
 -- `array_compound`
 module _ (s : List ℕ) (at target from stop : ℕ) (o w e e′ : List ℕ) (st st′ : State) (bare : ℕ) (strip : TypePart w (st .rows) (target + 1) (desugar (unfolded w target)) bare)
     (k : ℕ) (ek : k ≡ kindOf (unfolded w bare)) where
-  stripped : (work output : List ℕ) (x : TargetAndCells) → BothShown target s o from stop (lent work output e w st) x → st .full ≡ false → unfolded w bare ≡ desugar (x .type)
-  stripped work output x y p = strip .type ∙ ap desugar (y .typing .shows p .type)
+  stripped : (work output ix : List ℕ) (x : TargetAndCells) → BothShown target s o from stop (lent work output e w ix st) x → st .full ≡ false → unfolded w bare ≡ desugar (x .type)
+  stripped work output ix x y p = strip .type ∙ ap desugar (y .typing .shows p .type)
 
   pub no-array : (k ≡ 7 → ⊥) → (x : Error) → x ≡ errorAt s at 26 target 0 0 → Reported e st x e′ st′ → ArrayCompound s at target from stop o w e st e′ st′
   unfolding SpellsOperand isTypeOperand operandSort
   no-array q x ex rep =
       checks-room (λ x. arrayCompoundTarget (locationAt s at) (x .type) ∷ []) (λ x. arrayErrors (locationAt s at) (x .type) (x .cells))
       (checks-unless (λ x. false) (λ x. arrayCompoundTarget (locationAt s at) (x .type)) (reported-always (subst (λ (z : Error). Reported e st z e′ st′) ex rep))
-      (λ work output x y p. refl) (λ work output x y p. spells-at s at 26 (refl, y .typing .shows p) (refl, refl) (refl, refl)))
-      (λ work output x y p.
-      let z : eqb (kindOf (desugar (x .type))) 7 ≡ false = ne-eqb (kindOf (desugar (x .type))) 7 (λ u. q (ek ∙ ap kindOf (stripped work output x y p) ∙ u)) in
+      (λ work output ix x y p. refl) (λ work output ix x y p. spells-at s at 26 (refl, y .typing .shows p) (refl, refl) (refl, refl)))
+      (λ work output ix x y p.
+      let z : eqb (kindOf (desugar (x .type))) 7 ≡ false = ne-eqb (kindOf (desugar (x .type))) 7 (λ u. q (ek ∙ ap kindOf (stripped work output ix x y p) ∙ u)) in
       rw z refl)
 
   pub array-filled : k ≡ 7 → Filled w (st .rows) s o from stop → (expected : ℕ) → expected ≡ sizeOf (unfolded w bare) → (got : ℕ) → Counts s from stop got
@@ -116,12 +116,12 @@ module _ (s : List ℕ) (at target from stop : ℕ) (o w e e′ : List ℕ) (st 
       (checks-then (λ x. unless (eqb expected (cellCount (x .cells))) (compoundLength (locationAt s at) expected (cellCount (x .cells))))
       (λ x. elementErrors (locationAt s at) (unfolded w element) (x .cells))
       (checks-unless (λ x. eqb expected (cellCount (x .cells))) (λ x. compoundLength (locationAt s at) expected (cellCount (x .cells))) rep
-      (λ work output x y p. ap (eqb expected) (counted s o from stop f got n (lent work output e w st) (x .cells) (y .shown)))
-      (λ work output x y p. spells-at s at 25 (refl, refl) (refl, counted s o from stop f got n (lent work output e w st) (x .cells) (y .shown)) (refl, refl)))
-      (checks-at (λ x. x .cells) (λ cells. elementErrors (locationAt s at) (unfolded w element) cells) c (λ work output x y. y .shown))
+      (λ work output ix x y p. ap (eqb expected) (counted s o from stop f got n (lent work output e w ix st) (x .cells) (y .shown)))
+      (λ work output ix x y p. spells-at s at 25 (refl, refl) (refl, counted s o from stop f got n (lent work output e w ix st) (x .cells) (y .shown)) (refl, refl)))
+      (checks-at (λ x. x .cells) (λ cells. elementErrors (locationAt s at) (unfolded w element) cells) c (λ work output ix x y. y .shown))
       both-later)
-      (λ work output x y p.
-      let t : unfolded w bare ≡ desugar (x .type) = stripped work output x y p in
+      (λ work output ix x y p.
+      let t : unfolded w bare ≡ desugar (x .type) = stripped work output ix x y p in
       let z : eqb (kindOf (desugar (x .type))) 7 ≡ true = eq-eqb (kindOf (desugar (x .type))) 7 (sym (ap kindOf t) ∙ sym ek ∙ q) in
       let many : expected ≡ sizeOf (desugar (x .type)) = ee ∙ ap sizeOf t in
       let each : unfolded w element ≡ firstOf (desugar (x .type)) = part .type ∙ ap firstOf t in

@@ -3,7 +3,6 @@ use Prim.Native.Nat.{ℕ, _+_, _^_, _≤_, _<_}
 use mathlib.Core.Path.{_≡_, refl, sym, ap, _∙_, subst}
 use mathlib.Core.Bool.{Bool, true, false, true≢false}
 use mathlib.Core.List.{List, [], _++_}
-use mathlib.Core.Logic.{inl}
 use native.Mathlib.Omega.{arith}
 use lib.ListN.{length}
 use Rattle.types.specs.Ty.{Ty, end, node, is, kindOf, firstOf, secondOf, argumentKind}
@@ -11,53 +10,40 @@ use Rattle.types.specs.Table.{unfolded, Table, IsType, IsCell}
 use Rattle.types.specs.Post.{TypePart, CellPart, HasTypePart}
 use Rattle.types.proofs.Laws.{unfolded-zero}
 use Rattle.types.proofs.Query.{cell-kind}
-use Rattle.types.proofs.Grow.{extends-type}
 use Rattle.relations.specs.Entry.{OneType, TwoTypes}
 use Rattle.relations.specs.Relations.{typesAreAssignable}
 use Rattle.node.specs.Bytes.{Read, wordAt}
 use Rattle.node.specs.Layout.{stopAt}
 use Rattle.node.specs.Record.{locationAt}
 use Rattle.node.specs.Tree.{Location}
-use Rattle.fallible.specs.declared.Error.{Error}
 use Rattle.fallible.specs.Operands.{isTypeOperand, operandSort}
 use Rattle.meaning.specs.TypeError.{TypeError, unless, invalidArgument}
 use Rattle.meaning.specs.Expression.{argumentErrors, checkAssignable}
 use Rattle.meaning.specs.Compound.{elementErrors}
 use Rattle.state.specs.declared.State.{State}
-use Rattle.state.specs.Represents.{Lent, lent, Grew, SpellsOperand, Typing}
+use Rattle.state.specs.Represents.{Lent, lent, SpellsOperand, Typing}
 use Rattle.state.proofs.Walks.{walked-none}
 use Rattle.convert.specs.Post.{errorFor as errorAt}
 use Rattle.rules.specs.Rules.{Checks, ReportedUnless, CheckAssignable}
-use Rattle.rules.proofs.Laws.{spells-at, checks-unless, checks-room, checks-then}
+use Rattle.rules.proofs.Laws.{spells-at, checks-unless, checks-room, checks-then, unless-rows}
 use Rattle.lists.specs.Lists.{Filled, Shown, CheckArguments, CheckElements}
-use Rattle.lists.proofs.Chains.{first, first-filled, filled-later, next-place, first-shown, none-shown, shown-later}
+use Rattle.lists.proofs.Chains.{first, first-filled, next-place, first-shown, none-shown, shown-later}
 
 -- Checks, of what is known in other words
 
 module _ {X : Type 0} {Given : Lent → X → Type 0} {w e e′ : List ℕ} {st st′ : State} where
   pub checks-at : {Y : Type 0} {Given′ : Lent → Y → Type 0} (f : Y → X) (told : X → List TypeError) → Checks Given told w e st e′ st′
-      → ((work o : List ℕ) (y : Y) → Given′ (lent work o e w st) y → Given (lent work o e w st) (f y)) → Checks Given′ (λ y. told (f y)) w e st e′ st′
+      → ((work o ix : List ℕ) (y : Y) → Given′ (lent work o e w ix st) y → Given (lent work o e w ix st) (f y)) → Checks Given′ (λ y. told (f y)) w e st e′ st′
   checks-at f told c g =
       record {
-        walked = λ work o from to good.
-            let step = c .walked work o from to good in
-            record { grew = step .grew; frame = step .frame; does = λ y h. step .does (f y) (g work o y h) };
+        kept = c .kept;
+        walked = λ work o ix from to good.
+            let step = c .walked work o ix from to good in
+            record { grew = step .grew; frame = step .frame; does = λ y h. step .does (f y) (g work o ix y h) };
       }
 
-  -- The table obeys the rules and only grows
-  pub checks-grew : {told : X → List TypeError} → Checks Given told w e st e′ st′ → Table w (st .rows) → Grew (lent [] [] e w st) (lent [] [] e′ w st′)
-  checks-grew c t = c .walked [] [] 0 0 (record { table = t; words = λ i. record { either = inl refl } }) .grew
-
 pub checks-none : {X : Type 0} {Given : Lent → X → Type 0} {w e : List ℕ} {st : State} → Checks Given (λ x. []) w e st e st
-checks-none = record { walked = λ work o from to g. walked-none g }
-
--- The same rows, whether an error was reported or not
-pub unless-rows : {b : Bool} {x : Error} {e e′ : List ℕ} {st st′ : State} → ReportedUnless b x e st e′ st′ → st′ .rows ≡ st .rows
-unless-rows {b} {st = st} {st′ = st′} r = go b refl
-  where
-    go : (c : Bool) → b ≡ c → st′ .rows ≡ st .rows
-    go true q = ap (λ (s : State). s .rows) (r .none q .1)
-    go false q = ap (λ (s : State). s .rows) (r .one q .rest)
+checks-none = record { kept = refl; walked = λ work o ix from to g. walked-none g }
 
 -- Elements
 
@@ -89,37 +75,34 @@ module _ (s : List ℕ) (at from stop element : ℕ) (o w e₀ : List ℕ) (st�
     elements-on p got eg e₁ st₁ c same len el =
         subst (λ (x : ℕ). Elements s at from stop element o w e₀ st₀ x e₁ st₁) (next-place s place stop (i .filled .listed) p len el)
         (record {
-          one = record { table = grew .good .table; type = extends-type w w (st .rows) (st₁ .rows) (grew .extends) element (i .one .type) };
-          filled = filled-later w (st .rows) (st₁ .rows) (grew .extends) s o (stopAt s place) stop (first-filled w (st .rows) s o place stop (i .filled) p .next);
+          one = subst (λ (n : ℕ). OneType w n element) (sym (c .kept)) (i .one);
+          filled = subst (λ (n : ℕ). Filled w n s o (stopAt s place) stop) (sym (c .kept)) (first-filled w (st .rows) s o place stop (i .filled) p .next);
           long = same ∙ i .long;
           going = λ e′ st′ later. i .going e′ st′ (turn e′ st′ later);
         })
       where
-        grew : Grew (lent [] [] e w st) (lent [] [] e₁ w st₁)
-        grew = checks-grew c (i .one .table)
-
         turn : (e′ : List ℕ) (st′ : State) → CheckElements s at (stopAt s place) stop element o w e₁ st₁ e′ st′ → CheckElements s at place stop element o w e st e′ st′
         turn e′ st′ later =
             checks-room (λ cells. checkAssignable (locationAt s at) (unfolded w element) (firstOf cells) ++ elementErrors (locationAt s at) (unfolded w element) (secondOf cells))
             (λ cells. elementErrors (locationAt s at) (unfolded w element) cells)
             (checks-then (λ cells. checkAssignable (locationAt s at) (unfolded w element) (firstOf cells)) (λ cells. elementErrors (locationAt s at) (unfolded w element) (secondOf cells))
             (checks-at (λ cells. record { left = unfolded w element; right = firstOf cells }) (λ t. checkAssignable (locationAt s at) (t .left) (t .right)) c
-            (λ work output cells h.
+            (λ work output ix cells h.
             record {
               left = record { shows = λ q. record { is = i .one .type; type = refl } };
-              right = subst (λ (v : ℕ). Typing (lent work output e w st) v (firstOf cells)) (sym (eg .is)) (first-shown s o stop (lent work output e w st) cells place h p .typing);
+              right = subst (λ (v : ℕ). Typing (lent work output e w ix st) v (firstOf cells)) (sym (eg .is)) (first-shown s o stop (lent work output e w ix st) cells place h p .typing);
             }))
             (checks-at secondOf (λ cells. elementErrors (locationAt s at) (unfolded w element) cells) later
-            (λ work output cells h. first-shown s o stop (lent work output e₁ w st₁) cells place h p .rest))
+            (λ work output ix cells h. first-shown s o stop (lent work output e₁ w ix st₁) cells place h p .rest))
             (λ C C′ cells g h. shown-later s o stop C C′ cells place g h))
-            (λ work output cells h q. element-turn (locationAt s at) (unfolded w element) cells (first-shown s o stop (lent work output e w st) cells place h p .kind))
+            (λ work output ix cells h q. element-turn (locationAt s at) (unfolded w element) cells (first-shown s o stop (lent work output e w ix st) cells place h p .kind))
 
     pub elements-done : stop ≤ place → CheckElements s at from stop element o w e₀ st₀ e st
     unfolding elementErrors
     elements-done p =
         i .going e st
         (checks-room (λ cells. []) (λ cells. elementErrors (locationAt s at) (unfolded w element) cells) checks-none
-        (λ work output cells h q. sym (ap (λ (t : Ty). elementErrors (locationAt s at) (unfolded w element) t) (none-shown s o stop (lent work output e w st) cells place h p))))
+        (λ work output ix cells h q. sym (ap (λ (t : Ty). elementErrors (locationAt s at) (unfolded w element) t) (none-shown s o stop (lent work output e w ix st) cells place h p))))
 
 -- Arguments
 
@@ -154,14 +137,14 @@ module _ (s : List ℕ) (at from stop cells : ℕ) (o w e₀ : List ℕ) (st₀ 
     arguments-none z =
         i .going e st
         (checks-room (λ arguments. []) (λ arguments. argumentErrors (locationAt s at) position (unfolded w cell) arguments) checks-none
-        (λ work output arguments h q. sym (ap (λ (t : Ty). argumentErrors (locationAt s at) position t arguments) (ap (unfolded w) z ∙ unfolded-zero w))))
+        (λ work output ix arguments h q. sym (ap (λ (t : Ty). argumentErrors (locationAt s at) position t arguments) (ap (unfolded w) z ∙ unfolded-zero w))))
 
     pub arguments-done : stop ≤ place → CheckArguments s at from stop cells o w e₀ st₀ e st
     arguments-done p =
         i .going e st
         (checks-room (λ arguments. []) (λ arguments. argumentErrors (locationAt s at) position (unfolded w cell) arguments) checks-none
-        (λ work output arguments h q.
-        sym (ap (λ (t : Ty). argumentErrors (locationAt s at) position (unfolded w cell) t) (none-shown s o stop (lent work output e w st) arguments place h p)
+        (λ work output ix arguments h q.
+        sym (ap (λ (t : Ty). argumentErrors (locationAt s at) position (unfolded w cell) t) (none-shown s o stop (lent work output e w ix st) arguments place h p)
         ∙ argument-none (locationAt s at) position (unfolded w cell))))
 
     pub position-small : place < stop → position + 1 < 2 ^ 32
@@ -206,9 +189,9 @@ module _ (s : List ℕ) (at from stop cells : ℕ) (o w e₀ : List ℕ) (st₀ 
               going = λ e′ st′ later. i .going e′ st′ (turn e′ st′ later);
             })
           where
-            shown : (work output : List ℕ) (arguments : Ty) → Shown s o place stop (lent work output e w st) arguments → Typing (lent work output e w st) got (firstOf arguments)
-            shown work output arguments h =
-                subst (λ (v : ℕ). Typing (lent work output e w st) v (firstOf arguments)) (sym (eg .is)) (first-shown s o stop (lent work output e w st) arguments place h p .typing)
+            shown : (work output ix : List ℕ) (arguments : Ty) → Shown s o place stop (lent work output e w ix st) arguments → Typing (lent work output e w ix st) got (firstOf arguments)
+            shown work output ix arguments h =
+                subst (λ (v : ℕ). Typing (lent work output e w ix st) v (firstOf arguments)) (sym (eg .is)) (first-shown s o stop (lent work output e w ix st) arguments place h p .typing)
 
             turn : (e′ : List ℕ) (st′ : State)
                 → Checks (Shown s o (stopAt s place) stop) (λ arguments. argumentErrors (locationAt s at) (position + 1) (unfolded w cell′) arguments) w e₁ st₁ e′ st′
@@ -225,18 +208,18 @@ module _ (s : List ℕ) (at from stop cells : ℕ) (o w e₀ : List ℕ) (st₀ 
                 (λ arguments. argumentErrors (locationAt s at) (position + 1) (unfolded w cell′) (secondOf arguments))
                 (checks-unless (λ arguments. typesAreAssignable (firstOf (unfolded w cell)) (firstOf arguments))
                 (λ arguments. invalidArgument (locationAt s at) position (firstOf (unfolded w cell)) (firstOf arguments)) rep
-                (λ work output arguments h q.
+                (λ work output ix arguments h q.
                 eb ∙ ap (λ (u : Ty). typesAreAssignable u (unfolded w got)) (part .type)
-                ∙ ap (λ (u : Ty). typesAreAssignable (firstOf (unfolded w cell)) u) (shown work output arguments h .shows q .type))
-                (λ work output arguments h q.
+                ∙ ap (λ (u : Ty). typesAreAssignable (firstOf (unfolded w cell)) u) (shown work output ix arguments h .shows q .type))
+                (λ work output ix arguments h q.
                 spells-at s at 12 (refl, refl)
                 (refl, record { is = subst (λ (c : ℕ). IsType w c ty) (sym (i .rows)) (part .is); type = part .type })
-                (refl, shown work output arguments h .shows q)))
+                (refl, shown work output ix arguments h .shows q)))
                 (checks-at secondOf (λ arguments. argumentErrors (locationAt s at) (position + 1) (unfolded w cell′) arguments) later
-                (λ work output arguments h. first-shown s o stop (lent work output e₁ w st₁) arguments place h p .rest))
+                (λ work output ix arguments h. first-shown s o stop (lent work output e₁ w ix st₁) arguments place h p .rest))
                 (λ C C′ arguments g h. shown-later s o stop C C′ arguments place g h))
-                (λ work output arguments h q.
+                (λ work output ix arguments h q.
                 ap (λ (t : Ty).
                 unless (typesAreAssignable (firstOf (unfolded w cell)) (firstOf arguments)) (invalidArgument (locationAt s at) position (firstOf (unfolded w cell)) (firstOf arguments))
                 ++ argumentErrors (locationAt s at) (position + 1) t (secondOf arguments)) (rest .type)
-                ∙ argument-turn (locationAt s at) position (unfolded w cell) arguments parameter-kind (first-shown s o stop (lent work output e w st) arguments place h p .kind))
+                ∙ argument-turn (locationAt s at) position (unfolded w cell) arguments parameter-kind (first-shown s o stop (lent work output e w ix st) arguments place h p .kind))

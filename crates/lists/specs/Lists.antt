@@ -72,7 +72,7 @@ CheckArguments s at from stop cells output rows =
 abbrev pub Call : (s : List ℕ) (at ty from stop : ℕ) (output rows errors : List ℕ) (state : State) (errors′ : List ℕ) (r : Typed) → Type 0
 Call s at ty from stop output rows errors state errors′ r =
     Gives (BothShown ty s output from stop) (λ x. partOf functionKind (x .type)) (λ x. reporting (callErrors (locationAt s at) (x .type) (x .cells)))
-    rows errors state rows errors′ r
+    rows errors state errors′ r
 
 -- Elements against the element type
 abbrev pub CheckElements : (s : List ℕ) (at from stop element : ℕ) (output rows errors : List ℕ) (state : State) (errors′ : List ℕ) (state′ : State) → Type 0

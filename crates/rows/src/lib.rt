@@ -50,7 +50,7 @@ pub fn row_at(rows: &[u32], n: u32) -> Words
 }
 
 // Whether two rows have the same words. Rows behind the same part differ most often in the second word or the name.
-fn alike(a: Words, b: Words) -> bool
+pub fn alike(a: Words, b: Words) -> bool
     ensures { λ r. ⌜ Decides (a ≡ b) r ⌝ }
 {
     if a.second != b.second {

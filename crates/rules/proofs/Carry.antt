@@ -20,9 +20,9 @@ use Rattle.state.proofs.Sets.{each-append}
 use Rattle.state.proofs.Walks.{carried, walked-to-then, walked-to-as}
 use Rattle.rules.specs.Rules.{unaryType, unaryErrors, unaryEffect}
 
-module _ {X : Type 0} {G : X → Type 0} {from to : ℕ} {C : Lent} {work o o′ e w : List ℕ} {st : State} {at r : ℕ} (q : o′ ≡ slotStored o at r) (below : from ≤ slotPlace at) (above : slotEnd at ≤ to) where
-  pub carry-reported : (T : X → Ty) (told : X → List TypeError) → WalkedTo G T (λ x. reporting (told x)) from to C (lent work o e w st) r
-      → WalkedTo G T (λ x. carrying at (T x) (told x) 0) from to C (lent work o′ e w st) r
+module _ {X : Type 0} {G : X → Type 0} {from to : ℕ} {C : Lent} {work o o′ e w ix : List ℕ} {st : State} {at r : ℕ} (q : o′ ≡ slotStored o at r) (below : from ≤ slotPlace at) (above : slotEnd at ≤ to) where
+  pub carry-reported : (T : X → Ty) (told : X → List TypeError) → WalkedTo G T (λ x. reporting (told x)) from to C (lent work o e w ix st) r
+      → WalkedTo G T (λ x. carrying at (T x) (told x) 0) from to C (lent work o′ e w ix st) r
   carry-reported T told p =
       walked-to-as {a = λ x. reporting (told x) then carrying at (T x) [] 0}
       (walked-to-then (p .walked) (carried {G = G} (p .walked .grew .good) T q (p .is) (p .typing) below above) (λ x h. h))
@@ -39,9 +39,9 @@ at-most : (b : Bool) → cond b 1 0 ≤ 1
 at-most true = omega arith
 at-most false = omega arith
 
-pub carry-unary : {G : Ty → Type 0} {from to : ℕ} {C : Lent} {work o o′ e w : List ℕ} {st : State} {at r : ℕ} (kind : ℕ) (l : Location) (name : ℕ) → o′ ≡ slotStored o at r
-    → from ≤ slotPlace at → slotEnd at ≤ to → WalkedTo G (λ t. unaryType kind name t) (λ t. unaryEffect kind l name t) from to C (lent work o e w st) r
-    → WalkedTo G (λ t. unaryType kind name t) (λ t. carrying at (unaryType kind name t) (unaryErrors kind l name t) 1) from to C (lent work o′ e w st) r
+pub carry-unary : {G : Ty → Type 0} {from to : ℕ} {C : Lent} {work o o′ e w ix : List ℕ} {st : State} {at r : ℕ} (kind : ℕ) (l : Location) (name : ℕ) → o′ ≡ slotStored o at r
+    → from ≤ slotPlace at → slotEnd at ≤ to → WalkedTo G (λ t. unaryType kind name t) (λ t. unaryEffect kind l name t) from to C (lent work o e w ix st) r
+    → WalkedTo G (λ t. unaryType kind name t) (λ t. carrying at (unaryType kind name t) (unaryErrors kind l name t) 1) from to C (lent work o′ e w ix st) r
 carry-unary {G} {at = at} kind l name q below above p =
     walked-to-as {a = λ t. unaryEffect kind l name t then carrying at (unaryType kind name t) [] 0}
     (walked-to-then (p .walked) (carried {G = G} (p .walked .grew .good) (λ t. unaryType kind name t) q (p .is) (p .typing) below above) (λ t h. h))

@@ -36,7 +36,7 @@ use Rattle.state.proofs.Laws.{typing-later}
 use Rattle.state.proofs.Walks.{typing-bool, typing-u16, walked-make, made-type}
 use Rattle.convert.specs.Post.{errorFor as errorAt}
 use Rattle.rules.specs.Words.{orUnknownRow, resolvedWord}
-use Rattle.rules.specs.Rules.{Operands, identifierErrors, One, Two, Checks, ReportedUnless, Identifier, Integer, digitsAt, Unary, Binary, Arithmetic, Cast, CheckAssignable}
+use Rattle.rules.specs.Rules.{Operands, identifierErrors, One, Two, Checks, ReportedUnless, Identifier, Integer, digitsAt, Unary, UnaryKept, Binary, Arithmetic, Cast, CheckAssignable}
 use Rattle.rules.proofs.Laws.{walked-unless, spells-at, checks-unless, checks-room, reported-always, checks-then, gives-checked, checks-row, reported-none, reported-one}
 use Rattle.rules.proofs.Found.{unknown-shown, found-test, found-shown, resolved-is, resolved-found}
 
@@ -80,14 +80,14 @@ module _ (w : List ℕ) (c left right : ℕ) (two : TwoTypes w c left right) (k 
 -- Operators on one operand
 module _ (s : List ℕ) (at ty : ℕ) (w e e′ : List ℕ) (st st′ : State) (one : OneType w (st .rows) ty) where
   -- A row that shows what a function gives of the operand's type
-  shown : (f : Ty → Ty) (r : ℕ) → Shows w (st .rows) r (f (unfolded w ty)) → (work o : List ℕ) (t : Ty) → One ty (lent work o e w st) t → st .full ≡ false → Shows w (st .rows) r (f t)
-  shown f r sh work o t y p = record { is = sh .is; type = sh .type ∙ ap f (y .shows p .type) }
+  shown : (f : Ty → Ty) (r : ℕ) → Shows w (st .rows) r (f (unfolded w ty)) → (work o ix : List ℕ) (t : Ty) → One ty (lent work o e w ix st) t → st .full ≡ false → Shows w (st .rows) r (f t)
+  shown f r sh work o ix t y p = record { is = sh .is; type = sh .type ∙ ap f (y .shows p .type) }
 
-  own : (work o : List ℕ) (t : Ty) → One ty (lent work o e w st) t → st .full ≡ false → Shows w (st .rows) ty t
-  own work o t y p = y .shows p
+  own : (work o ix : List ℕ) (t : Ty) → One ty (lent work o e w ix st) t → st .full ≡ false → Shows w (st .rows) ty t
+  own work o ix t y p = y .shows p
 
   pub dereferenced : (k : ℕ) → k ≡ kindOf (unfolded w ty) → ReportedUnless (eqb k 6) (errorAt s at 16 ty 0 0) e st e′ st′
-      → (r : ℕ) → Shows w (st .rows) r (partOf pointerKind (unfolded w ty)) → Unary 40 s at ty w e st w e′ (record { ty = r; state = st′ })
+      → (r : ℕ) → Shows w (st .rows) r (partOf pointerKind (unfolded w ty)) → UnaryKept 40 s at ty w e st e′ (record { ty = r; state = st′ })
   unfolding isTypeOperand operandSort
   dereferenced k ek rep r sh =
       gives-checked (λ t. partOf pointerKind t) (λ t. unless (is pointerKind t) (notAPointer (locationAt s at) t))
@@ -95,7 +95,7 @@ module _ (s : List ℕ) (at ty : ℕ) (w e e′ : List ℕ) (st st′ : State) (
       (sh .is) (shown (λ t. partOf pointerKind t) r sh)
 
   pub bits-inverted : (k : ℕ) → k ≡ kindOf (unfolded w ty) → (b : Bool) → b ≡ isIntegralKind k → ReportedUnless b (errorAt s at 19 ty 0 0) e st e′ st′
-      → Unary 42 s at ty w e st w e′ (record { ty = ty; state = st′ })
+      → UnaryKept 42 s at ty w e st e′ (record { ty = ty; state = st′ })
   unfolding isTypeOperand operandSort
   bits-inverted k ek b eb rep =
       gives-checked (λ t. t) (λ t. unless (isIntegral t) (notIntegral (locationAt s at) t))
@@ -103,7 +103,7 @@ module _ (s : List ℕ) (at ty : ℕ) (w e e′ : List ℕ) (st st′ : State) (
       (one .type) own
 
   pub truth-inverted : (k : ℕ) → k ≡ kindOf (unfolded w ty) → ReportedUnless (eqb k 3) (errorAt s at 20 ty 0 0) e st e′ st′
-      → Unary 43 s at ty w e st w e′ (record { ty = ty; state = st′ })
+      → UnaryKept 43 s at ty w e st e′ (record { ty = ty; state = st′ })
   unfolding isTypeOperand operandSort
   truth-inverted k ek rep =
       gives-checked (λ t. t) (λ t. unless (is boolKind t) (notBoolean (locationAt s at) t))
@@ -112,49 +112,49 @@ module _ (s : List ℕ) (at ty : ℕ) (w e e′ : List ℕ) (st st′ : State) (
 
   -- A field, of what is left when the transparent aliases are stripped
   module _ (bare : ℕ) (part : TypePart w (st .rows) (ty + 1) (desugar (unfolded w ty)) bare) (k : ℕ) (ek : k ≡ kindOf (unfolded w bare)) where
-    stripped : (work o : List ℕ) (t : Ty) → One ty (lent work o e w st) t → st .full ≡ false → unfolded w bare ≡ desugar t
-    stripped work o t y p = part .type ∙ ap desugar (y .shows p .type)
+    stripped : (work o ix : List ℕ) (t : Ty) → One ty (lent work o e w ix st) t → st .full ≡ false → unfolded w bare ≡ desugar t
+    stripped work o ix t y p = part .type ∙ ap desugar (y .shows p .type)
 
-    pub no-struct : (k ≡ 8 → ⊥) → (x : Error) → x ≡ errorAt s at 17 ty 0 0 → Reported e st x e′ st′ → Unary 41 s at ty w e st w e′ (record { ty = 1; state = st′ })
+    pub no-struct : (k ≡ 8 → ⊥) → (x : Error) → x ≡ errorAt s at 17 ty 0 0 → Reported e st x e′ st′ → UnaryKept 41 s at ty w e st e′ (record { ty = 1; state = st′ })
     unfolding SpellsOperand isTypeOperand operandSort
     no-struct q x ex rep =
         gives-checked (λ t. orUnknown (fieldType (wordAt s (at + 20)) t)) (λ t. fieldErrors (locationAt s at) (wordAt s (at + 20)) t)
         (checks-room (λ t. noFields (locationAt s at) t ∷ []) (λ t. fieldErrors (locationAt s at) (wordAt s (at + 20)) t)
         (checks-unless (λ t. false) (λ t. noFields (locationAt s at) t) (reported-always (subst (λ (z : Error). Reported e st z e′ st′) ex rep))
-        (λ work o t y p. refl) (λ work o t y p. spells-at s at 17 (refl, y .shows p) (refl, refl) (refl, refl)))
-        (λ work o t y p. let z : eqb (kindOf (desugar t)) 8 ≡ false = other work o t y p in rw z refl))
+        (λ work o ix t y p. refl) (λ work o ix t y p. spells-at s at 17 (refl, y .shows p) (refl, refl) (refl, refl)))
+        (λ work o ix t y p. let z : eqb (kindOf (desugar t)) 8 ≡ false = other work o ix t y p in rw z refl))
         (unknown-shown w (st .rows) (one .table) .is)
-        (λ work o t y p. let z : eqb (kindOf (desugar t)) 8 ≡ false = other work o t y p in rw z (unknown-shown w (st .rows) (one .table)))
+        (λ work o ix t y p. let z : eqb (kindOf (desugar t)) 8 ≡ false = other work o ix t y p in rw z (unknown-shown w (st .rows) (one .table)))
       where
-        other : (work o : List ℕ) (t : Ty) → One ty (lent work o e w st) t → st .full ≡ false → eqb (kindOf (desugar t)) 8 ≡ false
-        other work o t y p = ne-eqb (kindOf (desugar t)) 8 (λ z. q (ek ∙ ap kindOf (stripped work o t y p) ∙ z))
+        other : (work o ix : List ℕ) (t : Ty) → One ty (lent work o e w ix st) t → st .full ≡ false → eqb (kindOf (desugar t)) 8 ≡ false
+        other work o ix t y p = ne-eqb (kindOf (desugar t)) 8 (λ z. q (ek ∙ ap kindOf (stripped work o ix t y p) ∙ z))
 
     pub field-found : k ≡ 8 → (name : ℕ) → name ≡ wordAt s (at + 20) → (field : ℕ) → FoundType w (st .rows) (fieldNamed name (firstOf (unfolded w bare))) field
-        → ReportedUnless (not (eqb field 0)) (errorAt s at 18 ty name 0) e st e′ st′ → (r : ℕ) → r ≡ orUnknownRow field → Unary 41 s at ty w e st w e′ (record { ty = r; state = st′ })
+        → ReportedUnless (not (eqb field 0)) (errorAt s at 18 ty name 0) e st e′ st′ → (r : ℕ) → r ≡ orUnknownRow field → UnaryKept 41 s at ty w e st e′ (record { ty = r; state = st′ })
     unfolding SpellsOperand isTypeOperand operandSort
     field-found q name en field f rep r er =
         gives-checked (λ t. orUnknown (fieldType (wordAt s (at + 20)) t)) (λ t. fieldErrors (locationAt s at) (wordAt s (at + 20)) t)
         (checks-room (λ t. unless (isSome (fieldType (wordAt s (at + 20)) t)) (noSuchField (locationAt s at) t (wordAt s (at + 20))))
         (λ t. fieldErrors (locationAt s at) (wordAt s (at + 20)) t)
         (checks-unless (λ t. isSome (fieldType (wordAt s (at + 20)) t)) (λ t. noSuchField (locationAt s at) t (wordAt s (at + 20))) rep
-        (λ work o t y p. found-test w (st .rows) (fieldNamed name (firstOf (unfolded w bare))) field f ∙ ap isSome (found work o t y p))
-        (λ work o t y p. spells-at s at 18 (refl, y .shows p) (refl, en) (refl, refl)))
-        (λ work o t y p. let z : eqb (kindOf (desugar t)) 8 ≡ true = struct work o t y p in rw z refl))
+        (λ work o ix t y p. found-test w (st .rows) (fieldNamed name (firstOf (unfolded w bare))) field f ∙ ap isSome (found work o ix t y p))
+        (λ work o ix t y p. spells-at s at 18 (refl, y .shows p) (refl, en) (refl, refl)))
+        (λ work o ix t y p. let z : eqb (kindOf (desugar t)) 8 ≡ true = struct work o ix t y p in rw z refl))
         (row-shown .is)
-        (λ work o t y p. record { is = row-shown .is; type = row-shown .type ∙ ap orUnknown (found work o t y p) })
+        (λ work o ix t y p. record { is = row-shown .is; type = row-shown .type ∙ ap orUnknown (found work o ix t y p) })
       where
-        struct : (work o : List ℕ) (t : Ty) → One ty (lent work o e w st) t → st .full ≡ false → eqb (kindOf (desugar t)) 8 ≡ true
-        struct work o t y p = eq-eqb (kindOf (desugar t)) 8 (sym (ap kindOf (stripped work o t y p)) ∙ sym ek ∙ q)
+        struct : (work o ix : List ℕ) (t : Ty) → One ty (lent work o e w ix st) t → st .full ≡ false → eqb (kindOf (desugar t)) 8 ≡ true
+        struct work o ix t y p = eq-eqb (kindOf (desugar t)) 8 (sym (ap kindOf (stripped work o ix t y p)) ∙ sym ek ∙ q)
 
-        found : (work o : List ℕ) (t : Ty) → One ty (lent work o e w st) t → st .full ≡ false → fieldNamed name (firstOf (unfolded w bare)) ≡ fieldType (wordAt s (at + 20)) t
-        found work o t y p = let z : eqb (kindOf (desugar t)) 8 ≡ true = struct work o t y p in rw z (ap (λ (u : Ty). fieldNamed name (firstOf u)) (stripped work o t y p) ∙ ap (λ (n : ℕ). fieldNamed n (firstOf (desugar t))) en)
+        found : (work o ix : List ℕ) (t : Ty) → One ty (lent work o e w ix st) t → st .full ≡ false → fieldNamed name (firstOf (unfolded w bare)) ≡ fieldType (wordAt s (at + 20)) t
+        found work o ix t y p = let z : eqb (kindOf (desugar t)) 8 ≡ true = struct work o ix t y p in rw z (ap (λ (u : Ty). fieldNamed name (firstOf u)) (stripped work o ix t y p) ∙ ap (λ (n : ℕ). fieldNamed n (firstOf (desugar t))) en)
 
         row-shown : Shows w (st .rows) r (orUnknown (fieldNamed name (firstOf (unfolded w bare))))
         row-shown = rw er (found-shown w (st .rows) (one .table) (fieldNamed name (firstOf (unfolded w bare))) field f)
 
 -- `&e`
-pub pointer-taken : (s : List ℕ) (at ty : ℕ) (w e w′ : List ℕ) (st : State) (r : Typed) → Makes (Pointer ty) w st w′ r → Unary 39 s at ty w e st w′ e r
-pointer-taken s at ty w e w′ st r m =
+pub pointer-taken : (s : List ℕ) (at ty : ℕ) (w b e w′ b′ : List ℕ) (st : State) (r : Typed) → Makes (Pointer ty) w b st w′ b′ r → Unary 39 s at ty w b e st w′ b′ e r
+pointer-taken s at ty w b e w′ b′ st r m =
     record {
       walked = λ work o from to g.
           let made = m .made work o e g in
@@ -168,12 +168,15 @@ pointer-taken s at ty w e w′ st r m =
     }
 
 -- A match on the kind
-module _ (kind : ℕ) (s : List ℕ) (at ty : ℕ) (w e w′ e′ : List ℕ) (st : State) (r : Typed) where
-  pub unary-as : (k : ℕ) → kind ≡ k → Unary k s at ty w e st w′ e′ r → Unary kind s at ty w e st w′ e′ r
-  unary-as k q u = subst (λ (n : ℕ). Unary n s at ty w e st w′ e′ r) (sym q) u
+module _ (kind : ℕ) (s : List ℕ) (at ty : ℕ) (w b e : List ℕ) (st : State) (r : Typed) where
+  pub pointer-as : kind ≡ 39 → (w′ b′ e′ : List ℕ) → Unary 39 s at ty w b e st w′ b′ e′ r → Unary kind s at ty w b e st w′ b′ e′ r
+  pointer-as q w′ b′ e′ u = subst (λ (n : ℕ). Unary n s at ty w b e st w′ b′ e′ r) (sym q) u
 
-  pub unary-other : (kind ≡ 39 → ⊥) → (kind ≡ 40 → ⊥) → (kind ≡ 41 → ⊥) → (kind ≡ 42 → ⊥) → Unary 43 s at ty w e st w′ e′ r → Unary kind s at ty w e st w′ e′ r
-  unary-other n39 n40 n41 n42 u = rw (ne-eqb kind 39 n39, ne-eqb kind 40 n40, ne-eqb kind 41 n41, ne-eqb kind 42 n42) u
+  pub unary-as : (k : ℕ) → kind ≡ k → (e′ : List ℕ) → UnaryKept k s at ty w e st e′ r → Unary kind s at ty w b e st w b e′ r
+  unary-as k q e′ u = subst (λ (n : ℕ). Unary n s at ty w b e st w b e′ r) (sym q) (record { walked = λ work o from to g. u .walked work o b from to g })
+
+  pub unary-other : (kind ≡ 39 → ⊥) → (kind ≡ 40 → ⊥) → (kind ≡ 41 → ⊥) → (kind ≡ 42 → ⊥) → (e′ : List ℕ) → UnaryKept 43 s at ty w e st e′ r → Unary kind s at ty w b e st w b e′ r
+  unary-other n39 n40 n41 n42 e′ u = rw (ne-eqb kind 39 n39, ne-eqb kind 40 n40, ne-eqb kind 41 n41, ne-eqb kind 42 n42) (record { walked = λ work o from to g. u .walked work o b from to g })
 
 -- Operators on two operands
 two-later : {l r : ℕ} (C C′ : Lent) (t : Operands) → Grew C C′ → Two l r C t → Two l r C′ t
@@ -187,7 +190,7 @@ module _ (s : List ℕ) (at left place right : ℕ) (w e e′ : List ℕ) (st st
       gives-checked (λ t. partOf arrayKind (t .left)) (λ t. unless (is u16Kind (t .right)) (invalidIndex (locationAt s place) (t .right)))
       (checks-row s place right (λ t. t .right) (λ C t y. y .right) 14 refl refl refl (λ t. is u16Kind t) (eqb k 4) (ap (λ (n : ℕ). eqb n 4) ek) rep)
       (sh .is)
-      (λ work o t y p. record { is = sh .is; type = sh .type ∙ ap (λ (u : Ty). partOf arrayKind u) (y .left .shows p .type) })
+      (λ work o ix t y p. record { is = sh .is; type = sh .type ∙ ap (λ (u : Ty). partOf arrayKind u) (y .left .shows p .type) })
 
   pub conjoined : (k : ℕ) → k ≡ kindOf (unfolded w left) → (k′ : ℕ) → k′ ≡ kindOf (unfolded w right) → (e₁ : List ℕ) (st₁ : State)
       → ReportedUnless (eqb k 3) (errorAt s at 21 left 0 0) e st e₁ st₁ → ReportedUnless (eqb k′ 3) (errorAt s at 22 right 0 0) e₁ st₁ e′ st′
@@ -202,7 +205,7 @@ module _ (s : List ℕ) (at left place right : ℕ) (w e e′ : List ℕ) (st st
       (checks-row s at right (λ t. t .right) (λ C t y. y .right) 22 refl refl refl (λ t. is boolKind t) (eqb k′ 3) (ap (λ (n : ℕ). eqb n 3) ek′) rep′)
       two-later)
       (two .first)
-      (λ work o t y p. y .left .shows p)
+      (λ work o ix t y p. y .left .shows p)
 
   pub computed : (operator l r : ℕ) → TypePart w (st .rows) (left + 1) (desugar (unfolded w left)) l → TypePart w (st .rows) (right + 1) (desugar (unfolded w right)) r
       → (b : Bool) → b ≡ computes (unfolded w l) (unfolded w r) → ReportedUnless b (errorAt s at 24 operator l r) e st e′ st′
@@ -211,14 +214,14 @@ module _ (s : List ℕ) (at left place right : ℕ) (w e e′ : List ℕ) (st st
   computed operator l r pl pr b eb rep =
       gives-checked (λ t. desugar (t .left)) (λ t. arithmeticErrors (locationAt s at) operator (t .left) (t .right))
       (checks-unless (λ t. computes (desugar (t .left)) (desugar (t .right))) (λ t. invalidOperands (locationAt s at) operator (desugar (t .left)) (desugar (t .right))) rep
-      (λ work o t y p.
+      (λ work o ix t y p.
       eb ∙ ap (λ (u : Ty). computes u (unfolded w r)) (pl .type ∙ ap desugar (y .left .shows p .type))
       ∙ ap (λ (u : Ty). computes (desugar (t .left)) u) (pr .type ∙ ap desugar (y .right .shows p .type)))
-      (λ work o t y p. spells-at s at 24 (refl, refl) (refl, shown-bare pl (y .left) p) (refl, shown-bare pr (y .right) p)))
+      (λ work o ix t y p. spells-at s at 24 (refl, refl) (refl, shown-bare pl (y .left) p) (refl, shown-bare pr (y .right) p)))
       (pl .is)
-      (λ work o t y p. shown-bare pl (y .left) p)
+      (λ work o ix t y p. shown-bare pl (y .left) p)
     where
-      shown-bare : {n r : ℕ} {work o : List ℕ} {t : Ty} → TypePart w (st .rows) (n + 1) (desugar (unfolded w n)) r → Typing (lent work o e w st) n t → st .full ≡ false → Shows w (st .rows) r (desugar t)
+      shown-bare : {n r : ℕ} {work o ix : List ℕ} {t : Ty} → TypePart w (st .rows) (n + 1) (desugar (unfolded w n)) r → Typing (lent work o e w ix st) n t → st .full ≡ false → Shows w (st .rows) r (desugar t)
       shown-bare part y p = record { is = part .is; type = part .type ∙ ap desugar (y .shows p .type) }
 
   -- Two rows that are named in an error, and a test of their types
@@ -228,8 +231,8 @@ module _ (s : List ℕ) (at left place right : ℕ) (w e e′ : List ℕ) (st st
   unfolding SpellsOperand
   checks-pair k k0 k1 k2 test b eb rep =
       checks-unless (λ t. test (t .left) (t .right)) (λ t. error k (locationAt s at) (row (t .left)) (row (t .right)) unused) rep
-      (λ work o t y p. eb ∙ ap (λ (u : Ty). test u (unfolded w right)) (y .left .shows p .type) ∙ ap (λ (u : Ty). test (t .left) u) (y .right .shows p .type))
-      (λ work o t y p. spells-at s at k (k0, y .left .shows p) (k1, y .right .shows p) (k2, refl))
+      (λ work o ix t y p. eb ∙ ap (λ (u : Ty). test u (unfolded w right)) (y .left .shows p .type) ∙ ap (λ (u : Ty). test (t .left) u) (y .right .shows p .type))
+      (λ work o ix t y p. spells-at s at k (k0, y .left .shows p) (k1, y .right .shows p) (k2, refl))
 
   pub casted : (b : Bool) → b ≡ isCastableTo (unfolded w left) (unfolded w right) → ReportedUnless b (errorAt s at 15 left right 0) e st e′ st′ → Cast s at left right w e st e′ st′
   unfolding isTypeOperand operandSort
@@ -252,8 +255,8 @@ module _ (kind : ℕ) (s : List ℕ) (at left place right : ℕ) (w e e′ : Lis
   compared n37 n44 n45 two a =
       rw (ne-eqb kind 37 n37, ne-eqb kind 44 n44, ne-eqb kind 45 n45)
       (record {
-        walked = λ work o from to g.
-            let step = a .walked work o from to g .walked in
+        walked = λ work o ix from to g.
+            let step = a .walked work o ix from to g .walked in
             record { walked = step; is = fixed-is w (r .state .rows) (step .grew .good .table) 3 (omega arith) (omega arith); typing = λ t y. typing-bool (step .grew .good) };
       })
 
@@ -264,9 +267,9 @@ pub identified : (s work : List ℕ) (at : ℕ) (e e′ : List ℕ) (st st′ : 
 unfolding SpellsOperand isTypeOperand operandSort
 identified s work at e e′ st st′ room name en found ef rep r er =
     record {
-      walked = λ o w from to g.
-          let step : Walked (Scope (lent work o e w st)) (λ ctx. reporting (identifierErrors ctx (locationAt s at) (wordAt s (at + 20)))) from to
-          (lent work o e w st) (lent work o e′ w st′) =
+      walked = λ o w ix from to g.
+          let step : Walked (Scope (lent work o e w ix st)) (λ ctx. reporting (identifierErrors ctx (locationAt s at) (wordAt s (at + 20)))) from to
+          (lent work o e w ix st) (lent work o e′ w ix st′) =
           walked-unless g (λ ctx. isSome (resolveIdentifier ctx (wordAt s (at + 20)))) (λ ctx. unknownIdentifier (locationAt s at) (wordAt s (at + 20))) rep
           (λ ctx h p. ap (λ (v : ℕ). not (eqb v 0)) there ∙ found-test w (st .rows) (resolveIdentifier ctx (wordAt s (at + 20))) (resolvedWord work (wordAt s (at + 20))) (resolved-found (wordAt s (at + 20)) ctx room p h))
           (λ ctx h p. spells-at s at 10 (refl, en .is) (refl, refl) (refl, refl)) in
@@ -298,7 +301,7 @@ module _ (s : List ℕ) (at base : ℕ) (eb : Read (wordAt s (at + 20)) 32 base)
   unfolding SpellsOperand isTypeOperand operandSort
   judged b q e′ st′ rep =
       record {
-        walked = λ work o w from to g.
+        walked = λ work o w ix from to g.
             let step = walked-unless g (λ (x : Unit {0}). isSome (fromStrRadix (wordAt s (at + 20)) (digitsAt s at))) (λ x. literalOutOfRange (locationAt s at)) rep
             (λ x h p. q ∙ ap isSome read) (λ x h p. spells-at s at 23 (refl, refl) (refl, refl) (refl, refl)) in
             record {

@@ -67,15 +67,15 @@ module _ (w : List ℕ) (c : ℕ) where
       go true q = rw q (unknown-shown t .is)
       go false q = rw q (⊎-elim (λ (z : v ≡ 0). absurd (eqb-false v 0 q z)) (λ (z : IsType w c v). z) (a .either))
 
-module _ {work o e w : List ℕ} {st : State} (name : ℕ) where
-  pub resolved-is : Good (lent work o e w st) → IsType w (st .rows) (orUnknownRow (resolvedWord work name))
+module _ {work o e w ix : List ℕ} {st : State} (name : ℕ) where
+  pub resolved-is : Good (lent work o e w ix st) → IsType w (st .rows) (orUnknownRow (resolvedWord work name))
   resolved-is g =
       word-shown w (st .rows) (g .table) (resolvedWord work name)
       (word-or w (st .rows) (getD work (wordPlace name 2) 0) (orRow (getD work (wordPlace name 3) 0) (getD work (wordPlace name 0) 0)) (g .words (wordPlace name 2))
       (word-or w (st .rows) (getD work (wordPlace name 3) 0) (getD work (wordPlace name 0) 0) (g .words (wordPlace name 3)) (g .words (wordPlace name 0))))
 
   -- What a name stands for is in its working words
-  pub resolved-found : (ctx : Context) → 4 * (name + 1) ≤ length work → st .full ≡ false → Scope (lent work o e w st) ctx
+  pub resolved-found : (ctx : Context) → 4 * (name + 1) ≤ length work → st .full ≡ false → Scope (lent work o e w ix st) ctx
       → FoundType w (st .rows) (resolveIdentifier ctx name) (resolvedWord work name)
   resolved-found ctx room p s =
       found-or w (st .rows) (ctx .inFunction .variables name) (orElse (ctx .inFunction .arguments name) (ctx .inModule .globals name)) (getD work (wordPlace name 2) 0)

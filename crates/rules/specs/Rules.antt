@@ -94,16 +94,26 @@ pub record Two (l r : ℕ) (C : Lent) (t : Operands) : Type 0 where
   pub left : Typing C l (t .left)
   pub right : Typing C r (t .right)
 
--- Whatever is given, the row returned shows its type, and the effect is done
+-- Whatever is given, the row returned shows its type, and the effect is done. The rows stay as they are, so any index of them may be lent
 pub record Gives {X : Type 0} (Given : Lent → X → Type 0) (type : X → Ty) (effect : X → Effect)
-    (rows errors : List ℕ) (state : State) (rows′ errors′ : List ℕ) (r : Typed) : Type 0 where
-  pub walked : (work output : List ℕ) (from to : ℕ) → Good (lent work output errors rows state)
-      → WalkedTo (Given (lent work output errors rows state)) type effect from to (lent work output errors rows state) (lent work output errors′ rows′ (r .state)) (r .ty)
+    (rows errors : List ℕ) (state : State) (errors′ : List ℕ) (r : Typed) : Type 0 where
+  pub walked : (work output buckets : List ℕ) (from to : ℕ) → Good (lent work output errors rows buckets state)
+      → WalkedTo (Given (lent work output errors rows buckets state)) type effect from to
+      (lent work output errors rows buckets state) (lent work output errors′ rows buckets (r .state)) (r .ty)
 
--- Whatever is given, the errors are reported
+-- The same where a row may be made
+pub record GivesMade {X : Type 0} (Given : Lent → X → Type 0) (type : X → Ty) (effect : X → Effect)
+    (rows buckets errors : List ℕ) (state : State) (rows′ buckets′ errors′ : List ℕ) (r : Typed) : Type 0 where
+  pub walked : (work output : List ℕ) (from to : ℕ) → Good (lent work output errors rows buckets state)
+      → WalkedTo (Given (lent work output errors rows buckets state)) type effect from to
+      (lent work output errors rows buckets state) (lent work output errors′ rows′ buckets′ (r .state)) (r .ty)
+
+-- Whatever is given, the errors are reported; no row is made
 pub record Checks {X : Type 0} (Given : Lent → X → Type 0) (told : X → List TypeError) (rows errors : List ℕ) (state : State) (errors′ : List ℕ) (state′ : State) : Type 0 where
-  pub walked : (work output : List ℕ) (from to : ℕ) → Good (lent work output errors rows state)
-      → Walked (Given (lent work output errors rows state)) (λ x. reporting (told x)) from to (lent work output errors rows state) (lent work output errors′ rows state′)
+  pub kept : state′ .rows ≡ state .rows
+  pub walked : (work output buckets : List ℕ) (from to : ℕ) → Good (lent work output errors rows buckets state)
+      → Walked (Given (lent work output errors rows buckets state)) (λ x. reporting (told x)) from to
+      (lent work output errors rows buckets state) (lent work output errors′ rows buckets state′)
 
 -- What the functions promise
 
@@ -113,10 +123,10 @@ pub record ReportedUnless (holds : Bool) (error : Error) (errors : List ℕ) (st
 
 -- An identifier, in whatever context the working words hold
 pub record Identifier (s work : List ℕ) (at : ℕ) (errors : List ℕ) (state : State) (errors′ : List ℕ) (r : Typed) : Type 0 where
-  pub walked : (output rows : List ℕ) (from to : ℕ) → Good (lent work output errors rows state)
-      → WalkedTo (Scope (lent work output errors rows state)) (λ ctx. orUnknown (resolveIdentifier ctx (wordAt s (at + 20))))
+  pub walked : (output rows buckets : List ℕ) (from to : ℕ) → Good (lent work output errors rows buckets state)
+      → WalkedTo (Scope (lent work output errors rows buckets state)) (λ ctx. orUnknown (resolveIdentifier ctx (wordAt s (at + 20))))
       (λ ctx. reporting (identifierErrors ctx (locationAt s at) (wordAt s (at + 20)))) from to
-      (lent work output errors rows state) (lent work output errors′ rows (r .state)) (r .ty)
+      (lent work output errors rows buckets state) (lent work output errors′ rows buckets (r .state)) (r .ty)
 
 -- The digits of the literal at a place: what follows its two fields
 abbrev pub digitsAt : (s : List ℕ) → (at : ℕ) → List ℕ
@@ -124,25 +134,29 @@ digitsAt s at = take (stopAt s at - (at + 24)) (drop (at + 24) s)
 
 -- A literal, with nothing given
 pub record Integer (s : List ℕ) (at : ℕ) (errors : List ℕ) (state : State) (errors′ : List ℕ) (r : Typed) : Type 0 where
-  pub walked : (work output rows : List ℕ) (from to : ℕ) → Good (lent work output errors rows state)
+  pub walked : (work output rows buckets : List ℕ) (from to : ℕ) → Good (lent work output errors rows buckets state)
       → WalkedTo (λ (x : Unit {0}). Unit {0}) (λ x. u16)
       (λ x. reporting (integerErrors (locationAt s at) (wordAt s (at + 20)) (digitsAt s at))) from to
-      (lent work output errors rows state) (lent work output errors′ rows (r .state)) (r .ty)
+      (lent work output errors rows buckets state) (lent work output errors′ rows buckets (r .state)) (r .ty)
 
 -- An operator on one operand, at the record at a place
-abbrev pub Unary : (kind : ℕ) (s : List ℕ) (at ty : ℕ) (rows errors : List ℕ) (state : State) (rows′ errors′ : List ℕ) (r : Typed) → Type 0
-Unary kind s at ty = Gives (One ty) (λ t. unaryType kind (wordAt s (at + 20)) t) (λ t. unaryEffect kind (locationAt s at) (wordAt s (at + 20)) t)
+abbrev pub Unary : (kind : ℕ) (s : List ℕ) (at ty : ℕ) (rows buckets errors : List ℕ) (state : State) (rows′ buckets′ errors′ : List ℕ) (r : Typed) → Type 0
+Unary kind s at ty = GivesMade (One ty) (λ t. unaryType kind (wordAt s (at + 20)) t) (λ t. unaryEffect kind (locationAt s at) (wordAt s (at + 20)) t)
+
+-- One that makes no row
+abbrev pub UnaryKept : (kind : ℕ) (s : List ℕ) (at ty : ℕ) (rows errors : List ℕ) (state : State) (errors′ : List ℕ) (r : Typed) → Type 0
+UnaryKept kind s at ty = Gives (One ty) (λ t. unaryType kind (wordAt s (at + 20)) t) (λ t. unaryEffect kind (locationAt s at) (wordAt s (at + 20)) t)
 
 -- An operator on two operands; the right stands at `place`
 abbrev pub Binary : (kind : ℕ) (s : List ℕ) (at left place right : ℕ) (rows errors : List ℕ) (state : State) (errors′ : List ℕ) (r : Typed) → Type 0
 Binary kind s at left place right rows errors state errors′ r =
-    Gives (Two left right) (λ t. binaryType kind t) (λ t. reporting (binaryErrors kind (locationAt s at) (locationAt s place) (wordAt s (at + 20)) t)) rows errors state rows errors′ r
+    Gives (Two left right) (λ t. binaryType kind t) (λ t. reporting (binaryErrors kind (locationAt s at) (locationAt s place) (wordAt s (at + 20)) t)) rows errors state errors′ r
 
 -- `arithmetic_binop_result_type`
 abbrev pub Arithmetic : (s : List ℕ) (at operator left right : ℕ) (rows errors : List ℕ) (state : State) (errors′ : List ℕ) (r : Typed) → Type 0
 Arithmetic s at operator left right rows errors state errors′ r =
     Gives (Two left right) (λ t. arithmeticType (t .left) (t .right)) (λ t. reporting (arithmeticErrors (locationAt s at) operator (t .left) (t .right)))
-    rows errors state rows errors′ r
+    rows errors state errors′ r
 
 -- A cast from the left to the right
 abbrev pub Cast : (s : List ℕ) (at source target : ℕ) (rows errors : List ℕ) (state : State) (errors′ : List ℕ) (state′ : State) → Type 0

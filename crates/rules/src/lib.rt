@@ -26,6 +26,7 @@ use types::Row;
 ghost use mathlib.Core.Path.{_≡_};
 ghost use Prim.Native.Nat.{_+_, _*_, _≤_};
 ghost use lib.ListN.{length};
+ghost use Rattle.lookup.specs.Buckets.{Indexed};
 ghost use Rattle.types.specs.Ty.{pointerKind, structKind};
 ghost use Rattle.types.specs.Table.{unfolded};
 ghost use Rattle.relations.specs.Entry.{OneType, TwoTypes};
@@ -36,7 +37,7 @@ ghost use Rattle.meaning.specs.Promise.{workWidth};
 ghost use Rattle.state.specs.Represents.{Shows};
 ghost use Rattle.rules.specs.Words.{orUnknownRow, resolvedWord};
 ghost use Rattle.convert.specs.Post.{errorFor as errorAt};
-ghost use Rattle.rules.specs.Rules.{ReportedUnless, Identifier, Integer, Unary, Binary, Arithmetic, Cast, CheckAssignable};
+ghost use Rattle.rules.specs.Rules.{ReportedUnless, Identifier, Integer, Unary, UnaryKept, Binary, Arithmetic, Cast, CheckAssignable};
 
 // The kinds of the records of operators.
 const INDEX: u32 = 37;
@@ -172,12 +173,14 @@ fn pointer_take(
     ty: u32,
     errors: &[u32],
     rows: &mut [u32],
+    buckets: &mut [u16; lookup::LENGTH],
     state: State,
 ) -> Typed
     requires { ⌜ OneType (now rows) (state .rows) ty ⌝ }
-    ensures { λ r. ⌜ Unary 39 (now (s .entry)) at ty (now (rows .entry)) (now (errors .entry)) state (now (rows .exit)) (now (errors .entry)) r ⌝ }
+    requires { ⌜ Indexed (now rows) (state .rows) (now buckets) ⌝ }
+    ensures { λ r. ⌜ Unary 39 (now (s .entry)) at ty (now (rows .entry)) (now (buckets .entry)) (now (errors .entry)) state (now (rows .exit)) (now (buckets .exit)) (now (errors .entry)) r ⌝ }
 {
-    state::make(rows, state, Row::Pointer(ty))
+    state::make(rows, buckets, state, Row::Pointer(ty))
 }
 
 // `*e`
@@ -190,7 +193,7 @@ fn dereference(
     state: State,
 ) -> Typed
     requires { ⌜ (at + 24 ≤ length (now s)) × OneType (now rows) (state .rows) ty ⌝ }
-    ensures { λ r. ⌜ Unary 40 (now (s .entry)) at ty (now (rows .entry)) (now (errors .entry)) state (now (rows .entry)) (now (errors .exit)) r ⌝ }
+    ensures { λ r. ⌜ UnaryKept 40 (now (s .entry)) at ty (now (rows .entry)) (now (errors .entry)) state (now (errors .exit)) r ⌝ }
 {
     let holds = types::kind(rows, state.rows, ty) == types::POINTER;
     let next = report_unless(holds, s, at, NOT_A_POINTER, ty, 0, 0, errors, state);
@@ -210,7 +213,7 @@ fn field_access(
     state: State,
 ) -> Typed
     requires { ⌜ (at + 24 ≤ length (now s)) × OneType (now rows) (state .rows) ty ⌝ }
-    ensures { λ r. ⌜ Unary 41 (now (s .entry)) at ty (now (rows .entry)) (now (errors .entry)) state (now (rows .entry)) (now (errors .exit)) r ⌝ }
+    ensures { λ r. ⌜ UnaryKept 41 (now (s .entry)) at ty (now (rows .entry)) (now (errors .entry)) state (now (errors .exit)) r ⌝ }
 {
     let name = word(s, at + 20);
     let bare = types::desugar(rows, state.rows, ty);
@@ -240,7 +243,7 @@ fn bitwise_not(
     state: State,
 ) -> Typed
     requires { ⌜ (at + 24 ≤ length (now s)) × OneType (now rows) (state .rows) ty ⌝ }
-    ensures { λ r. ⌜ Unary 42 (now (s .entry)) at ty (now (rows .entry)) (now (errors .entry)) state (now (rows .entry)) (now (errors .exit)) r ⌝ }
+    ensures { λ r. ⌜ UnaryKept 42 (now (s .entry)) at ty (now (rows .entry)) (now (errors .entry)) state (now (errors .exit)) r ⌝ }
 {
     let holds = relations::is_integral(types::kind(rows, state.rows, ty));
     let next = report_unless(holds, s, at, NO_BITWISE_NOT, ty, 0, 0, errors, state);
@@ -257,7 +260,7 @@ fn boolean_not(
     state: State,
 ) -> Typed
     requires { ⌜ (at + 24 ≤ length (now s)) × OneType (now rows) (state .rows) ty ⌝ }
-    ensures { λ r. ⌜ Unary 43 (now (s .entry)) at ty (now (rows .entry)) (now (errors .entry)) state (now (rows .entry)) (now (errors .exit)) r ⌝ }
+    ensures { λ r. ⌜ UnaryKept 43 (now (s .entry)) at ty (now (rows .entry)) (now (errors .entry)) state (now (errors .exit)) r ⌝ }
 {
     let holds = types::kind(rows, state.rows, ty) == types::BOOL;
     let next = report_unless(holds, s, at, NO_BOOLEAN_NOT, ty, 0, 0, errors, state);
@@ -272,13 +275,15 @@ pub fn unary(
     ty: u32,
     errors: &mut [u32],
     rows: &mut [u32],
+    buckets: &mut [u16; lookup::LENGTH],
     state: State,
 ) -> Typed
     requires { ⌜ (at + 24 ≤ length (now s)) × OneType (now rows) (state .rows) ty ⌝ }
-    ensures { λ r. ⌜ Unary kind (now (s .entry)) at ty (now (rows .entry)) (now (errors .entry)) state (now (rows .exit)) (now (errors .exit)) r ⌝ }
+    requires { ⌜ Indexed (now rows) (state .rows) (now buckets) ⌝ }
+    ensures { λ r. ⌜ Unary kind (now (s .entry)) at ty (now (rows .entry)) (now (buckets .entry)) (now (errors .entry)) state (now (rows .exit)) (now (buckets .exit)) (now (errors .exit)) r ⌝ }
 {
     match kind {
-        POINTER_TAKE => pointer_take(s, at, ty, errors, rows, state),
+        POINTER_TAKE => pointer_take(s, at, ty, errors, rows, buckets, state),
         POINTER_DEREFERENCE => dereference(s, at, ty, errors, rows, state),
         FIELD_ACCESS => field_access(s, at, ty, errors, rows, state),
         BITWISE_NOT => bitwise_not(s, at, ty, errors, rows, state),

@@ -17,6 +17,7 @@ use Rattle.fallible.specs.declared.Error.{Error}
 use Rattle.fallible.specs.Errors.{errorWidth, errorAt, ErrorList, errorList, room, pushAll, Listed}
 use Rattle.fallible.specs.Operands.{isTypeOperand}
 use Rattle.fallible.proofs.Laws.{all-counted, all-listed, push-all-error}
+use Rattle.lookup.specs.Buckets.{Indexed}
 use Rattle.meaning.specs.TypeError.{TypeError, Operand, plain, row}
 use Rattle.meaning.specs.Context.{each}
 use Rattle.meaning.specs.Promise.{operandOf, unfoldError, errorListOf, OperandsExist}
@@ -26,11 +27,11 @@ use Rattle.state.proofs.Sets.{both}
 use Rattle.state.proofs.Making.{state}
 
 -- The fixed rows alone stand for nothing done
-module _ {w w′ : List ℕ} (f : FixedStored w w′) where
-  pub begin-good : (work o e : List ℕ) → ((i : ℕ) → getD work i 0 ≡ 0) → Good (lent work o e w′ (state 0 7 false))
-  begin-good work o e zeros = record { table = f .table; words = λ i. record { either = inl (zeros i) } }
+module _ {w w′ b′ : List ℕ} (f : FixedStored w w′) where
+  pub begin-good : (work o e : List ℕ) → Indexed w′ 7 b′ → ((i : ℕ) → getD work i 0 ≡ 0) → Good (lent work o e w′ b′ (state 0 7 false))
+  begin-good work o e ix zeros = record { table = f .table; indexed = ix; words = λ i. record { either = inl (zeros i) } }
 
-  pub begin : (work o e : List ℕ) → Represents o e (lent work o e w′ (state 0 7 false)) nothing
+  pub begin : (work o e : List ℕ) → Represents o e (lent work o e w′ b′ (state 0 7 false)) nothing
   unfolding needed each Written SpellsAll pushAll
   begin work o e =
       record {

@@ -13,6 +13,7 @@ use Rattle.types.specs.Ty.{Ty, member, distinctCount, parts, fixedTypes}
 use Rattle.types.specs.Table.{hasType, Table, Extends, IsType}
 use Rattle.types.proofs.Grow.{extends-refl, extends-trans, extends-unfolded, extends-type, extends-cell}
 use Rattle.types.proofs.Parts.{member-append}
+use Rattle.lookup.specs.Buckets.{Indexed}
 use Rattle.fallible.specs.declared.Error.{Error}
 use Rattle.fallible.specs.Errors.{ErrorList, errorList, pushed}
 use Rattle.fallible.proofs.Laws.{push-all-last}
@@ -104,15 +105,15 @@ module _ (w : List ℕ) (c : ℕ) where
 
 -- Growth
 
-pub good-later : {work : List ℕ} {o e w o′ e′ w′ : List ℕ} {st st′ : State} → Good (lent work o e w st) → Table w′ (st′ .rows) → Extends w (st .rows) w′ (st′ .rows) → Good (lent work o′ e′ w′ st′)
-good-later {work} {w = w} {w′ = w′} {st = st} {st′ = st′} g tb e =
-    record { table = tb; words = λ i. word-later w w′ (st .rows) (st′ .rows) e (getD work i 0) (g .words i) }
+pub good-later : {work : List ℕ} {o e w o′ e′ w′ b b′ : List ℕ} {st st′ : State} → Good (lent work o e w b st) → Table w′ (st′ .rows) → Indexed w′ (st′ .rows) b′ → Extends w (st .rows) w′ (st′ .rows) → Good (lent work o′ e′ w′ b′ st′)
+good-later {work} {w = w} {w′ = w′} {st = st} {st′ = st′} g tb ix e =
+    record { table = tb; indexed = ix; words = λ i. word-later w w′ (st .rows) (st′ .rows) e (getD work i 0) (g .words i) }
 
 -- Where no row is made
-pub grew-same : {work o e w : List ℕ} {st : State} (o′ e′ : List ℕ) (n : ℕ) → Good (lent work o e w st) → Grew (lent work o e w st) (lent work o′ e′ w (counted st n))
-grew-same {work} {o} {e} {w} {st} o′ e′ n g =
+pub grew-same : {work o e w b : List ℕ} {st : State} (o′ e′ : List ℕ) (n : ℕ) → Good (lent work o e w b st) → Grew (lent work o e w b st) (lent work o′ e′ w b (counted st n))
+grew-same {work} {o} {e} {w} {st = st} o′ e′ n g =
     let x = extends-refl w (st .rows) in
-    record { good = good-later g (g .table) x; extends = x; sticky = λ p. p }
+    record { good = good-later g (g .table) (g .indexed) x; extends = x; sticky = λ p. p }
 
 pub grew-then : {A B C : Lent} → Grew A B → Grew B C → Grew A C
 grew-then {A} {B} {C} a b =
@@ -137,7 +138,7 @@ pub typing-cells-later : {A B : Lent} {k r : ℕ} {t : Ty} → Grew A B → Typi
 typing-cells-later {A} {B} g h = record { shows = λ p. cells-later (A .rows) (B .rows) (A .state .rows) (B .state .rows) (g .extends) (h .shows (had-room g p)) }
 
 -- Where no working word is changed
-pub scope-later : {work o e w o′ e′ w′ : List ℕ} {st st′ : State} {ctx : Context} → Grew (lent work o e w st) (lent work o′ e′ w′ st′) → Scope (lent work o e w st) ctx → Scope (lent work o′ e′ w′ st′) ctx
+pub scope-later : {work o e w o′ e′ w′ b b′ : List ℕ} {st st′ : State} {ctx : Context} → Grew (lent work o e w b st) (lent work o′ e′ w′ b′ st′) → Scope (lent work o e w b st) ctx → Scope (lent work o′ e′ w′ b′ st′) ctx
 scope-later {work} {w = w} {w′ = w′} {st = st} {st′ = st′} {ctx = ctx} g s =
     record {
       holds = λ p name which l h. holds-later w w′ (st .rows) (st′ .rows) (g .extends) (getD work (wordPlace name which) 0) (mapAt ctx which name) (s .holds (had-room g p) name which l h);
@@ -273,12 +274,12 @@ meet-last a types n =
     let e = append-nil (a .errors) in
     λ i. record { stores = sym s i; errors = sym e i; met = a .met ++ types; steps = a .steps + n }
 
-module _ {work o e w : List ℕ} {st : State} where
-  pub does-store : (at r : ℕ) (t : Ty) → Typing (lent work o e w st) r t → Does (storing at t) (lent work o e w st) (lent work (slotStored o at r) e w st)
+module _ {work o e w b : List ℕ} {st : State} where
+  pub does-store : (at r : ℕ) (t : Ty) → Typing (lent work o e w b st) r t → Does (storing at t) (lent work o e w b st) (lent work (slotStored o at r) e w b st)
   unfolding needed
   does-store at r t ty =
       record {
-        does = λ o₀ e₀ before h. subst (Represents o₀ e₀ (lent work (slotStored o at r) e w st)) (store-last before at t)
+        does = λ o₀ e₀ before h. subst (Represents o₀ e₀ (lent work (slotStored o at r) e w b st)) (store-last before at t)
             (record {
               fits = λ p.
                   let f = h .fits p in
@@ -288,12 +289,12 @@ module _ {work o e w : List ℕ} {st : State} where
       }
 
   pub does-report : (d : TypeError) (x : Error) (e′ : List ℕ) (st′ : State) → (st .full ≡ false → Spells w (st .rows) d x) → Reported e st x e′ st′
-      → Does (reporting (d ∷ [])) (lent work o e w st) (lent work o e′ w st′)
+      → Does (reporting (d ∷ [])) (lent work o e w b st) (lent work o e′ w b st′)
   unfolding needed
   does-report d x e′ st′ sp r =
-      subst (λ (s : State). Does (reporting (d ∷ [])) (lent work o e w st) (lent work o e′ w s)) (sym (r .rest))
+      subst (λ (s : State). Does (reporting (d ∷ [])) (lent work o e w b st) (lent work o e′ w b s)) (sym (r .rest))
       (record {
-        does = λ o₀ e₀ before h. subst (Represents o₀ e₀ (lent work o e′ w (counted st (st′ .errors)))) (report-last before (d ∷ []))
+        does = λ o₀ e₀ before h. subst (Represents o₀ e₀ (lent work o e′ w b (counted st (st′ .errors)))) (report-last before (d ∷ []))
             (record {
               fits = λ p.
                   let f = h .fits p in
@@ -308,16 +309,16 @@ module _ {work o e w : List ℕ} {st : State} where
             });
       })
 
-  pub grew-report : {x : Error} {e′ : List ℕ} {st′ : State} → Good (lent work o e w st) → Reported e st x e′ st′ → Grew (lent work o e w st) (lent work o e′ w st′)
-  grew-report {x} {e′} {st′} g r = subst (λ (s : State). Grew (lent work o e w st) (lent work o e′ w s)) (sym (r .rest)) (grew-same o e′ (st′ .errors) g)
+  pub grew-report : {x : Error} {e′ : List ℕ} {st′ : State} → Good (lent work o e w b st) → Reported e st x e′ st′ → Grew (lent work o e w b st) (lent work o e′ w b st′)
+  grew-report {x} {e′} {st′} g r = subst (λ (s : State). Grew (lent work o e w b st) (lent work o e′ w b s)) (sym (r .rest)) (grew-same o e′ (st′ .errors) g)
 
   -- Types whose rows are there already are met
   pub does-known : (types : List Ty) → (st .full ≡ false → (t : Ty) → member t (each parts types) ≡ true → hasType w (st .rows) t ≡ true)
-      → Does (meeting types 0) (lent work o e w st) (lent work o e w st)
+      → Does (meeting types 0) (lent work o e w b st) (lent work o e w b st)
   unfolding needed
   does-known types k =
       record {
-        does = λ o₀ e₀ before h. subst (Represents o₀ e₀ (lent work o e w st)) (meet-last before types 0)
+        does = λ o₀ e₀ before h. subst (Represents o₀ e₀ (lent work o e w b st)) (meet-last before types 0)
             (record {
               fits = λ p.
                   let f = h .fits p in

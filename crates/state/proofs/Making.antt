@@ -8,11 +8,12 @@ use native.Mathlib.Omega.{arith}
 use lib.ListN.{length}
 use Rattle.types.specs.Ty.{Ty, member, parts}
 use Rattle.types.specs.Table.{unfolded, hasType, Table, IsType, IsCell}
-use Rattle.types.specs.Post.{typeOf, PartsOk, Sort, Added, NoRoom, InternPost}
+use Rattle.types.specs.Post.{typeOf, PartsOk, Sort, Added, NoRoom, InternPost, countAfter}
 use Rattle.types.specs.declared.Row.{Row}
 use Rattle.types.specs.declared.Row.the-variants.{Pointer, Array, Struct, Function, Alias, DistinctAlias, Field, Argument}
 use Rattle.types.specs.declared.Interned.{Interned}
 use Rattle.types.specs.declared.Interned.the-variants.{At, Full}
+use Rattle.lookup.specs.Buckets.{Indexed}
 use Rattle.types.proofs.Grow.{extends-refl}
 use Rattle.types.proofs.Fixed.{fixed-is}
 use Rattle.types.proofs.Count.{rows-exceeded}
@@ -52,7 +53,7 @@ at-most-one : (b : Bool) (c : ℕ) → cond b c (c + 1) ≤ c + 1
 at-most-one true c = omega arith
 at-most-one false c = omega arith
 
-module _ (w : List ℕ) (st : State) (row : Row) (tb : Table w (st .rows)) (ok : PartsOk w (st .rows) row) where
+module _ (w : List ℕ) (b : List ℕ) (st : State) (row : Row) (tb : Table w (st .rows)) (ok : PartsOk w (st .rows) row) where
   abbrev type : Ty
   type = typeOf row (unfolded w)
 
@@ -68,12 +69,12 @@ module _ (w : List ℕ) (st : State) (row : Row) (tb : Table w (st .rows)) (ok :
   type-needed before =
       sym (type-added before type) ∙ member-append type (parts type) (needed before) ∙ ap (λ (b : Bool). b || member type (needed before)) (own-part row (unfolded w))
 
-  module _ (w′ : List ℕ) (n c : ℕ) (a : Added w (st .rows) type w′ n c) (sort : Sort w′ c row n) (work o e : List ℕ) (g : Good (lent work o e w st)) where
-    row-does : Does (meeting (type ∷ []) 1) (lent work o e w st) (lent work o e w′ (state (st .errors) c (st .full)))
+  module _ (w′ : List ℕ) {b′ : List ℕ} (n c : ℕ) (a : Added w (st .rows) type w′ n c) (ix : Indexed w′ c b′) (sort : Sort w′ c row n) (work o e : List ℕ) (g : Good (lent work o e w b st)) where
+    row-does : Does (meeting (type ∷ []) 1) (lent work o e w b st) (lent work o e w′ b′ (state (st .errors) c (st .full)))
     unfolding needed
     row-does =
         record {
-          does = λ o₀ e₀ before h. subst (Represents o₀ e₀ (lent work o e w′ (state (st .errors) c (st .full)))) (meet-last before (type ∷ []) 1)
+          does = λ o₀ e₀ before h. subst (Represents o₀ e₀ (lent work o e w′ b′ (state (st .errors) c (st .full)))) (meet-last before (type ∷ []) 1)
               (record {
                 fits = λ p.
                     let f = h .fits p in
@@ -88,17 +89,17 @@ module _ (w : List ℕ) (st : State) (row : Row) (tb : Table w (st .rows)) (ok :
               });
         }
 
-    row-made : Made row (lent work o e w st) (lent work o e w′ (state (st .errors) c (st .full))) n
+    row-made : Made row (lent work o e w b st) (lent work o e w′ b′ (state (st .errors) c (st .full))) n
     row-made =
         record {
-          grew = record { good = good-later g (a .table) (a .extends); extends = a .extends; sticky = λ p. p };
+          grew = record { good = good-later g (a .table) ix (a .extends); extends = a .extends; sticky = λ p. p };
           sort = sort;
           type = λ p. a .type;
           does = row-does;
         }
 
-  module _ (w′ : List ℕ) (a : NoRoom w (st .rows) type w′) (work o e : List ℕ) (g : Good (lent work o e w st)) where
-    lack : {o₀ e₀ : List ℕ} (before : Effect) (b : Bool) → st .full ≡ b → Represents o₀ e₀ (lent work o e w st) before → TooMany (length w) (before then meeting (type ∷ []) 1)
+  module _ (w′ : List ℕ) {b′ : List ℕ} (a : NoRoom w (st .rows) type w′) (ix : Indexed w′ (st .rows) b′) (work o e : List ℕ) (g : Good (lent work o e w b st)) where
+    lack : {o₀ e₀ : List ℕ} (before : Effect) (x : Bool) → st .full ≡ x → Represents o₀ e₀ (lent work o e w b st) before → TooMany (length w) (before then meeting (type ∷ []) 1)
     lack before true q h = too-many-then (length w) before (meeting (type ∷ []) 1) (h .lacks q)
     lack before false q h =
         let f = h .fits q in
@@ -106,22 +107,24 @@ module _ (w : List ℕ) (st : State) (row : Row) (tb : Table w (st .rows)) (ok :
         let more = rows-exceeded w (st .rows) tb after (λ u k. needed-within before (meeting (type ∷ []) 1) u (sym (f .types u) ∙ k)) type (a .absent) (type-needed before) in
         ⊎-elim (λ (p : length w < 4 * (st .rows + 1)). inl (omega arith)) (λ (p : 2 ^ 32 ≤ st .rows + 1). inr (omega (arith, f .few))) (a .full)
 
-    full-made : Made row (lent work o e w st) (lent work o e w′ (state (st .errors) (st .rows) true)) (substituteFor row)
+    full-made : Made row (lent work o e w b st) (lent work o e w′ b′ (state (st .errors) (st .rows) true)) (substituteFor row)
     full-made =
-        subst (λ (x : List ℕ). Made row (lent work o e w st) (lent work o e x (state (st .errors) (st .rows) true)) (substituteFor row)) (sym (a .kept))
+        subst (λ (x : List ℕ). Made row (lent work o e w b st) (lent work o e x b′ (state (st .errors) (st .rows) true)) (substituteFor row)) (sym (a .kept))
         (record {
-          grew = record { good = good-later g tb (extends-refl w (st .rows)); extends = extends-refl w (st .rows); sticky = λ p. refl };
+          grew = record { good = good-later g tb (subst (λ (x : List ℕ). Indexed x (st .rows) b′) (a .kept) ix) (extends-refl w (st .rows)); extends = extends-refl w (st .rows); sticky = λ p. refl };
           sort = substitute-sort w (st .rows) tb row;
           type = λ p. both refl p;
           does = record { does = λ o₀ e₀ before h. record { fits = λ p. both refl p; lacks = λ p. lack before (st .full) refl h } };
         })
 
-  pub make-at : (w′ : List ℕ) (i : Interned) (n c : ℕ) → InternPost w (st .rows) row w′ i → i ≡ At n c → Makes row w st w′ (record { ty = n; state = state (st .errors) c (st .full) })
-  make-at w′ i n c h q =
+  pub make-at : (w′ b′ : List ℕ) (i : Interned) (n c : ℕ) → InternPost w (st .rows) row w′ i → Indexed w′ (countAfter (st .rows) i) b′ → i ≡ At n c → Makes row w b st w′ b′ (record { ty = n; state = state (st .errors) c (st .full) })
+  make-at w′ b′ i n c h ix q =
       let a = subst (InternPost w (st .rows) row w′) q h in
-      record { answer = At n c; interned = a; result = refl; made = λ work o e g. row-made w′ n c (a .0) (a .1) work o e g }
+      let later = subst (λ (x : Interned). Indexed w′ (countAfter (st .rows) x) b′) q ix in
+      record { answer = At n c; interned = a; result = refl; made = λ work o e g. row-made w′ n c (a .0) later (a .1) work o e g }
 
-  pub make-full : (w′ : List ℕ) (i : Interned) (n : ℕ) → InternPost w (st .rows) row w′ i → i ≡ Full → n ≡ substituteFor row → Makes row w st w′ (record { ty = n; state = state (st .errors) (st .rows) true })
-  make-full w′ i n h q s =
+  pub make-full : (w′ b′ : List ℕ) (i : Interned) (n : ℕ) → InternPost w (st .rows) row w′ i → Indexed w′ (countAfter (st .rows) i) b′ → i ≡ Full → n ≡ substituteFor row → Makes row w b st w′ b′ (record { ty = n; state = state (st .errors) (st .rows) true })
+  make-full w′ b′ i n h ix q s =
       let a = subst (InternPost w (st .rows) row w′) q h in
-      subst (λ (x : ℕ). Makes row w st w′ (record { ty = x; state = state (st .errors) (st .rows) true })) (sym s) (record { answer = Full; interned = a; result = refl; made = λ work o e g. full-made w′ a work o e g })
+      let later = subst (λ (x : Interned). Indexed w′ (countAfter (st .rows) x) b′) q ix in
+      subst (λ (x : ℕ). Makes row w b st w′ b′ (record { ty = x; state = state (st .errors) (st .rows) true })) (sym s) (record { answer = Full; interned = a; result = refl; made = λ work o e g. full-made w′ a later work o e g })

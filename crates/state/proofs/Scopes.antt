@@ -35,9 +35,9 @@ module _ (w : List ℕ) (c : ℕ) where
 
 -- What is set
 
-module _ {work o e w : List ℕ} {st : State} (name which v : ℕ) (l : wordPlace name which < length work) where
-  pub good-set : Good (lent work o e w st) → WordOk w (st .rows) v → Good (lent (set work (wordPlace name which) v) o e w st)
-  good-set g ok = record { table = g .table; words = λ i. word i (eqb i (wordPlace name which)) refl }
+module _ {work o e w b : List ℕ} {st : State} (name which v : ℕ) (l : wordPlace name which < length work) where
+  pub good-set : Good (lent work o e w b st) → WordOk w (st .rows) v → Good (lent (set work (wordPlace name which) v) o e w b st)
+  good-set g ok = record { table = g .table; indexed = g .indexed; words = λ i. word i (eqb i (wordPlace name which)) refl }
     where
       word : (i : ℕ) (b : Bool) → eqb i (wordPlace name which) ≡ b → WordOk w (st .rows) (getD (set work (wordPlace name which) v) i 0)
       word i true q =
@@ -45,12 +45,12 @@ module _ {work o e w : List ℕ} {st : State} (name which v : ℕ) (l : wordPlac
           subst (WordOk w (st .rows)) (sym (ap (λ (j : ℕ). getD (set work (wordPlace name which) v) j 0) there ∙ getD-set-same work (wordPlace name which) v 0 l)) ok
       word i false q = subst (WordOk w (st .rows)) (sym (getD-set-other work (wordPlace name which) i v 0 (eqb-false i (wordPlace name which) q))) (g .words i)
 
-  pub grew-set : Good (lent work o e w st) → WordOk w (st .rows) v → Grew (lent work o e w st) (lent (set work (wordPlace name which) v) o e w st)
+  pub grew-set : Good (lent work o e w b st) → WordOk w (st .rows) v → Grew (lent work o e w b st) (lent (set work (wordPlace name which) v) o e w b st)
   grew-set g ok = record { good = good-set g ok; extends = extends-refl w (st .rows); sticky = λ p. p }
 
   -- What a word holds after it was set to what the new context has there
   pub scope-set : (ctx ctx′ : Context) → which < 4 → ((n k : ℕ) → ((n ≡ name) × (k ≡ which) → ⊥) → mapAt ctx′ k n ≡ mapAt ctx k n)
-      → (st .full ≡ false → Holds w (st .rows) v (mapAt ctx′ which name)) → Scope (lent work o e w st) ctx → Scope (lent (set work (wordPlace name which) v) o e w st) ctx′
+      → (st .full ≡ false → Holds w (st .rows) v (mapAt ctx′ which name)) → Scope (lent work o e w b st) ctx → Scope (lent (set work (wordPlace name which) v) o e w b st) ctx′
   scope-set ctx ctx′ lw same new s =
       record { holds = λ p n k lk h. at p n k lk (rw (length-set work (wordPlace name which) v) at h) (eqb (wordPlace n k) (wordPlace name which)) refl }
     where
@@ -68,15 +68,15 @@ module _ {work o e w : List ℕ} {st : State} (name which v : ℕ) (l : wordPlac
           (subst (Holds w (st .rows) (getD work (wordPlace n k) 0)) (sym (same n k (λ both. away (λ i. wordPlace (both .0 i) (both .1 i))))) (s .holds p n k lk h))
 
 -- Setting a word is no effect
-pub does-work : {work o e w : List ℕ} {st : State} (work′ : List ℕ) → Does nothing (lent work o e w st) (lent work′ o e w st)
-does-work {o = o} {e = e} {w = w} {st = st} work′ =
+pub does-work : {work o e w b : List ℕ} {st : State} (work′ : List ℕ) → Does nothing (lent work o e w b st) (lent work′ o e w b st)
+does-work {o = o} {e = e} {w = w} {b = b} {st = st} work′ =
     record {
-      does = λ o₀ e₀ before h. subst (Represents o₀ e₀ (lent work′ o e w st)) (sym (then-nothing before))
+      does = λ o₀ e₀ before h. subst (Represents o₀ e₀ (lent work′ o e w b st)) (sym (then-nothing before))
           (record { fits = λ p. let f = h .fits p in record { types = f .types; few = f .few; stored = f .stored; told = f .told }; lacks = h .lacks });
     }
 
-pub walked-set : {X : Type 0} {G : X → Type 0} {from to : ℕ} {work o e w : List ℕ} {st : State} (name which v : ℕ) → wordPlace name which < length work → Good (lent work o e w st)
-    → WordOk w (st .rows) v → Walked G (λ x. nothing) from to (lent work o e w st) (lent (set work (wordPlace name which) v) o e w st)
+pub walked-set : {X : Type 0} {G : X → Type 0} {from to : ℕ} {work o e w b : List ℕ} {st : State} (name which v : ℕ) → wordPlace name which < length work → Good (lent work o e w b st)
+    → WordOk w (st .rows) v → Walked G (λ x. nothing) from to (lent work o e w b st) (lent (set work (wordPlace name which) v) o e w b st)
 walked-set {work = work} name which v l g ok =
     record { grew = grew-set name which v l g ok; frame = frame-none; does = λ x h. does-work (set work (wordPlace name which) v) }
 
@@ -107,19 +107,19 @@ insert-other name t map n ne = rw (ne-eqb n name ne)
 insert-here : (name : ℕ) (t : Ty) (map : TypeMap) → insert (entry name t) map name ≡ some t
 insert-here name t map = rw (eq-eqb name name refl)
 
-module _ {work o e w : List ℕ} {st : State} (name r : ℕ) (t : Ty) (ctx : Context) (s : Scope (lent work o e w st) ctx) (ty : Typing (lent work o e w st) r t) where
+module _ {work o e w b : List ℕ} {st : State} (name r : ℕ) (t : Ty) (ctx : Context) (s : Scope (lent work o e w b st) ctx) (ty : Typing (lent work o e w b st) r t) where
   holds-here : (map : TypeMap) → st .full ≡ false → Holds w (st .rows) r (insert (entry name t) map name)
   unfolding Holds
   holds-here map p = subst (Holds w (st .rows) r) (sym (insert-here name t map)) (ty .shows p)
 
-  pub scope-global : wordPlace name 0 < length work → Scope (lent (set work (wordPlace name 0) r) o e w st) (withGlobal name t ctx)
+  pub scope-global : wordPlace name 0 < length work → Scope (lent (set work (wordPlace name 0) r) o e w b st) (withGlobal name t ctx)
   scope-global l = scope-set name 0 r l ctx (withGlobal name t ctx) (omega arith) same (holds-here (ctx .inModule .globals)) s
     where
       same : (n k : ℕ) → ((n ≡ name) × (k ≡ 0) → ⊥) → mapAt (withGlobal name t ctx) k n ≡ mapAt ctx k n
       same n zero ne = insert-other name t (ctx .inModule .globals) n (λ q. ne (q, refl))
       same n (suc k) ne = refl
 
-  pub scope-alias : wordPlace name 1 < length work → Scope (lent (set work (wordPlace name 1) r) o e w st) (withAlias name t ctx)
+  pub scope-alias : wordPlace name 1 < length work → Scope (lent (set work (wordPlace name 1) r) o e w b st) (withAlias name t ctx)
   scope-alias l = scope-set name 1 r l ctx (withAlias name t ctx) (omega arith) same (holds-here (ctx .inModule .typeAliases)) s
     where
       same : (n k : ℕ) → ((n ≡ name) × (k ≡ 1) → ⊥) → mapAt (withAlias name t ctx) k n ≡ mapAt ctx k n
@@ -127,7 +127,7 @@ module _ {work o e w : List ℕ} {st : State} (name r : ℕ) (t : Ty) (ctx : Con
       same n (suc zero) ne = insert-other name t (ctx .inModule .typeAliases) n (λ q. ne (q, refl))
       same n (suc (suc k)) ne = refl
 
-  pub scope-local : wordPlace name 2 < length work → Scope (lent (set work (wordPlace name 2) r) o e w st) (withLocal (entry name t) ctx)
+  pub scope-local : wordPlace name 2 < length work → Scope (lent (set work (wordPlace name 2) r) o e w b st) (withLocal (entry name t) ctx)
   scope-local l = scope-set name 2 r l ctx (withLocal (entry name t) ctx) (omega arith) same (holds-here (ctx .inFunction .variables)) s
     where
       same : (n k : ℕ) → ((n ≡ name) × (k ≡ 2) → ⊥) → mapAt (withLocal (entry name t) ctx) k n ≡ mapAt ctx k n
@@ -136,7 +136,7 @@ module _ {work o e w : List ℕ} {st : State} (name r : ℕ) (t : Ty) (ctx : Con
       same n (suc (suc zero)) ne = insert-other name t (ctx .inFunction .variables) n (λ q. ne (q, refl))
       same n (suc (suc (suc k))) ne = refl
 
-  pub scope-argument : wordPlace name 3 < length work → Scope (lent (set work (wordPlace name 3) r) o e w st) (withArgument name t ctx)
+  pub scope-argument : wordPlace name 3 < length work → Scope (lent (set work (wordPlace name 3) r) o e w b st) (withArgument name t ctx)
   scope-argument l = scope-set name 3 r l ctx (withArgument name t ctx) (omega arith) same (holds-here (ctx .inFunction .arguments)) s
     where
       same : (n k : ℕ) → ((n ≡ name) × (k ≡ 3) → ⊥) → mapAt (withArgument name t ctx) k n ≡ mapAt ctx k n
@@ -152,9 +152,9 @@ scope-same {C} ctx ctx′ same s =
     record { holds = λ p n k lk h. subst (Holds (C .rows) (C .state .rows) (getD (C .work) (wordPlace n k) 0)) (sym (same n k)) (s .holds p n k lk h) }
 
 -- The words of locals and arguments are cleared: outside of functions
-pub scope-blank : {work o e w : List ℕ} {st : State} {ctx : Context} (work′ : List ℕ) → length work′ ≡ length work
+pub scope-blank : {work o e w b : List ℕ} {st : State} {ctx : Context} (work′ : List ℕ) → length work′ ≡ length work
     → ((n k : ℕ) → k < 2 → getD work′ (wordPlace n k) 0 ≡ getD work (wordPlace n k) 0) → ((n k : ℕ) → 2 ≤ k → k < 4 → getD work′ (wordPlace n k) 0 ≡ 0)
-    → Scope (lent work o e w st) ctx → Scope (lent work′ o e w st) (context (ctx .inModule) blank)
+    → Scope (lent work o e w b st) ctx → Scope (lent work′ o e w b st) (context (ctx .inModule) blank)
 unfolding Holds
 scope-blank {work} {w = w} {st = st} {ctx = ctx} work′ long kept zeros s = record { holds = at }
   where

@@ -135,43 +135,43 @@ module _ {X : Type 0} {G : X → Type 0} {from to : ℕ} where
         typing = λ x h. record { shows = λ q. subst (Shows (C′ .rows) (C′ .state .rows) r) (et x h (had-room (p .walked .grew) q)) (p .typing x h .shows q) };
       }
 
-  module _ {work o e w : List ℕ} {st : State} (g : Good (lent work o e w st)) where
+  module _ {work o e w b : List ℕ} {st : State} (g : Good (lent work o e w b st)) where
     -- The type of a row that is there is met, and stored in the slot of the record at a place
-    pub walked-slot : {at r : ℕ} {o′ : List ℕ} (t : X → Ty) → from ≤ slotPlace at → slotEnd at ≤ to → o′ ≡ slotStored o at r → ((x : X) → G x → Typing (lent work o e w st) r (t x))
-        → Walked G (λ x. carrying at (t x) [] 0) from to (lent work o e w st) (lent work o′ e w st)
+    pub walked-slot : {at r : ℕ} {o′ : List ℕ} (t : X → Ty) → from ≤ slotPlace at → slotEnd at ≤ to → o′ ≡ slotStored o at r → ((x : X) → G x → Typing (lent work o e w b st) r (t x))
+        → Walked G (λ x. carrying at (t x) [] 0) from to (lent work o e w b st) (lent work o′ e w b st)
     unfolding each
     walked-slot {at} {r} t l m q ty =
-        subst (λ (x : List ℕ). Walked G (λ x. carrying at (t x) [] 0) from to (lent work o e w st) (lent work x e w st)) (sym q)
+        subst (λ (x : List ℕ). Walked G (λ x. carrying at (t x) [] 0) from to (lent work o e w b st) (lent work x e w b st)) (sym q)
         (record {
           grew = grew-same (slotStored o at r) e (st .errors) g;
           frame = frame-slot from to at r o l m;
           does = λ x h. does-then (known (t x) (ty x h)) (does-store at r (t x) (ty x h));
         })
       where
-        known : (u : Ty) → Typing (lent work o e w st) r u → Does (meeting (u ∷ []) 0) (lent work o e w st) (lent work o e w st)
+        known : (u : Ty) → Typing (lent work o e w b st) r u → Does (meeting (u ∷ []) 0) (lent work o e w b st) (lent work o e w b st)
         known u y =
             does-known (u ∷ [])
             (λ p v m.
             let s = y .shows p in
             subst (λ (z : Ty). member v (parts z) ≡ true → hasType w (st .rows) v ≡ true) (s .type) (has-parts w (st .rows) (g .table) r (s .is .high) v) (rw (append-nil (parts u)) at m))
 
-    pub carried : {at r : ℕ} {o′ : List ℕ} (t : X → Ty) → o′ ≡ slotStored o at r → IsType w (st .rows) r → ((x : X) → G x → Typing (lent work o e w st) r (t x)) → from ≤ slotPlace at → slotEnd at ≤ to
-        → WalkedTo G t (λ x. carrying at (t x) [] 0) from to (lent work o e w st) (lent work o′ e w st) r
+    pub carried : {at r : ℕ} {o′ : List ℕ} (t : X → Ty) → o′ ≡ slotStored o at r → IsType w (st .rows) r → ((x : X) → G x → Typing (lent work o e w b st) r (t x)) → from ≤ slotPlace at → slotEnd at ≤ to
+        → WalkedTo G t (λ x. carrying at (t x) [] 0) from to (lent work o e w b st) (lent work o′ e w b st) r
     carried t q is ty l m = let step = walked-slot t l m q ty in record { walked = step; is = is; typing = λ x h. typing-later (step .grew) (ty x h) }
 
     pub walked-report : {x : Error} {e′ : List ℕ} {st′ : State} (d : X → TypeError) → Reported e st x e′ st′ → ((y : X) → G y → st .full ≡ false → Spells w (st .rows) (d y) x)
-        → Walked G (λ y. reporting (d y ∷ [])) from to (lent work o e w st) (lent work o e′ w st′)
+        → Walked G (λ y. reporting (d y ∷ [])) from to (lent work o e w b st) (lent work o e′ w b st′)
     walked-report {x} {e′} {st′} d r sp = record { grew = grew-report g r; frame = frame-none; does = λ y h. does-report (d y) x e′ st′ (sp y h) r }
 
     -- The row of a type, or of a list of cells
-    pub walked-make : {row : Row} {w′ : List ℕ} {r : Typed} (t : X → Ty) → Makes row w st w′ r → ((x : X) → G x → st .full ≡ false → typeOf row (unfolded w) ≡ t x)
-        → Walked G (λ x. meeting (t x ∷ []) 1) from to (lent work o e w st) (lent work o e w′ (r .state))
-    walked-make {row} {w′} {r} t m is =
+    pub walked-make : {row : Row} {w′ b′ : List ℕ} {r : Typed} (t : X → Ty) → Makes row w b st w′ b′ r → ((x : X) → G x → st .full ≡ false → typeOf row (unfolded w) ≡ t x)
+        → Walked G (λ x. meeting (t x ∷ []) 1) from to (lent work o e w b st) (lent work o e w′ b′ (r .state))
+    walked-make {row} {w′} {b′} {r} t m is =
         let made = m .made work o e g in
         record {
           grew = made .grew;
           frame = frame-none;
-          does = λ x h. does-if-room (made .grew) (λ p. subst (λ (u : Ty). Does (meeting (u ∷ []) 1) (lent work o e w st) (lent work o e w′ (r .state))) (is x h p) (made .does));
+          does = λ x h. does-if-room (made .grew) (λ p. subst (λ (u : Ty). Does (meeting (u ∷ []) 1) (lent work o e w b st) (lent work o e w′ b′ (r .state))) (is x h p) (made .does));
         }
 
 -- A walk that is known for each x, at the x of each y
@@ -187,12 +187,12 @@ pub made-type : {row : Row} {C C′ : Lent} {r : ℕ} {t : Ty} → Made row C C�
 made-type m is p = m .type p ∙ is (had-room (m .grew) p)
 
 -- A row is made for the type of a record, and stored in its slot
-pub carried-made : {X : Type 0} {G : X → Type 0} {from to : ℕ} {work o e w w′ o′ : List ℕ} {st : State} {at : ℕ} {row : Row} {r : Typed} (t : X → Ty) → Good (lent work o e w st) → Makes row w st w′ r
+pub carried-made : {X : Type 0} {G : X → Type 0} {from to : ℕ} {work o e w w′ o′ b b′ : List ℕ} {st : State} {at : ℕ} {row : Row} {r : Typed} (t : X → Ty) → Good (lent work o e w b st) → Makes row w b st w′ b′ r
     → IsType w′ (r .state .rows) (r .ty) → ((x : X) → G x → st .full ≡ false → typeOf row (unfolded w) ≡ t x) → o′ ≡ slotStored o at (r .ty) → from ≤ slotPlace at → slotEnd at ≤ to
-    → WalkedTo G t (λ x. carrying at (t x) [] 1) from to (lent work o e w st) (lent work o′ e w′ (r .state)) (r .ty)
-carried-made {X} {G} {work = work} {o = o} {e = e} {w′ = w′} {at = at} {r = r} t g m is ty q below above =
+    → WalkedTo G t (λ x. carrying at (t x) [] 1) from to (lent work o e w b st) (lent work o′ e w′ b′ (r .state)) (r .ty)
+carried-made {X} {G} {work = work} {o = o} {e = e} {w′ = w′} {b′ = b′} {at = at} {r = r} t g m is ty q below above =
     let made = m .made work o e g in
-    let types : (x : X) → G x → Typing (lent work o e w′ (r .state)) (r .ty) (t x) = (λ x h. record { shows = λ p. record { is = is; type = made-type made (ty x h) p } }) in
+    let types : (x : X) → G x → Typing (lent work o e w′ b′ (r .state)) (r .ty) (t x) = (λ x h. record { shows = λ p. record { is = is; type = made-type made (ty x h) p } }) in
     walked-to-as (walked-to-then (walked-make g t m ty) (carried {G = G} (made .grew .good) t q is types below above) (λ x h. h)) (λ x. shown-made at (t x) [] 1 0)
 
 -- A loop: whatever does the rest does the whole

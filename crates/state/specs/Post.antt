@@ -41,12 +41,12 @@ resultOf row state (At n count) = record { ty = n; state = record { errors = sta
 resultOf row state Full = record { ty = substituteFor row; state = record { errors = state .errors; rows = state .rows; full = true } }
 
 -- `make` does what `intern` does, and its effect is the same whatever else is lent
-pub record Makes (row : Row) (rows : List ℕ) (state : State) (rows′ : List ℕ) (r : Typed) : Type 0 where
+pub record Makes (row : Row) (rows buckets : List ℕ) (state : State) (rows′ buckets′ : List ℕ) (r : Typed) : Type 0 where
   pub answer : Interned
   pub interned : InternPost rows (state .rows) row rows′ answer
   pub result : r ≡ resultOf row state answer
-  pub made : (work output errors : List ℕ) → Good (lent work output errors rows state)
-      → Made row (lent work output errors rows state) (lent work output errors rows′ (r .state)) (r .ty)
+  pub made : (work output errors : List ℕ) → Good (lent work output errors rows buckets state)
+      → Made row (lent work output errors rows buckets state) (lent work output errors rows′ buckets′ (r .state)) (r .ty)
 
 -- A state with another count of errors
 abbrev pub counted : State → (errors : ℕ) → State

@@ -8,6 +8,7 @@ use mathlib.Core.Option.{Option, none, some}
 use lib.ListN.{length, getD}
 use Rattle.types.specs.Ty.{Ty, member, distinctCount}
 use Rattle.types.specs.Table.{rowWidth, fixedCount, unfolded, hasType, Table, Extends, IsType, IsCell}
+use Rattle.lookup.specs.Buckets.{Indexed}
 use Rattle.fallible.specs.declared.Error.{Error}
 use Rattle.fallible.specs.Errors.{ErrorList, errorList, pushAll}
 use Rattle.fallible.specs.Operands.{isTypeOperand}
@@ -18,16 +19,18 @@ use Rattle.state.specs.Effect.{Store, Effect, _then_, needed}
 use Rattle.state.specs.Words.{slotStored, wordPlace, mapAt}
 use Rattle.state.specs.declared.State.{State}
 
--- The slices lent, and the counts. Of the working words those are lent that belong to a name
+-- The slices lent, the index of the rows, and the counts. Of the working words those are lent that belong to a name
 pub record Lent : Type 0 where
   pub work : List ℕ
   pub output : List ℕ
   pub errors : List ℕ
   pub rows : List ℕ
+  pub buckets : List ℕ
   pub state : State
 
-abbrev pub lent : (work output errors rows : List ℕ) → State → Lent
-lent work output errors rows state = record { work = work; output = output; errors = errors; rows = rows; state = state }
+abbrev pub lent : (work output errors rows buckets : List ℕ) → State → Lent
+lent work output errors rows buckets state =
+    record { work = work; output = output; errors = errors; rows = rows; buckets = buckets; state = state }
 
 -- Safety, with or without room
 
@@ -37,6 +40,7 @@ pub record WordOk (rows : List ℕ) (count v : ℕ) : Type 0 where
 
 pub record Good (C : Lent) : Type 0 where
   pub table : Table (C .rows) (C .state .rows)
+  pub indexed : Indexed (C .rows) (C .state .rows) (C .buckets)
   pub words : (i : ℕ) → WordOk (C .rows) (C .state .rows) (getD (C .work) i 0)
 
 -- From C to C′ the table obeys the rules and only grows, and a lack of room is not forgotten

@@ -5,6 +5,7 @@ ghost use mathlib.Core.Path.{_≡_};
 ghost use Prim.Native.Nat.{_+_, _*_, _<_, _≤_};
 ghost use lib.ListN.{length, getD, set};
 ghost use Rattle.state.specs.Words.{slotStored, wordPlace, slotEnd};
+ghost use Rattle.lookup.specs.Buckets.{Indexed};
 ghost use Rattle.types.specs.Table.{Table};
 ghost use Rattle.types.specs.Post.{PartsOk};
 ghost use Rattle.state.specs.Post.{substituteFor, Makes, Reported};
@@ -57,11 +58,12 @@ fn substitute(row: Row) -> u32
 }
 
 // The number of a row, made if it is not there. Where it finds no room, nothing is changed but the state.
-pub fn make(rows: &mut [u32], state: State, row: Row) -> Typed
+pub fn make(rows: &mut [u32], buckets: &mut [u16; lookup::LENGTH], state: State, row: Row) -> Typed
     requires { ⌜ Table (now rows) (state .rows) × PartsOk (now rows) (state .rows) row ⌝ }
-    ensures { λ r. ⌜ Makes row (now (rows .entry)) state (now (rows .exit)) r ⌝ }
+    requires { ⌜ Indexed (now rows) (state .rows) (now buckets) ⌝ }
+    ensures { λ r. ⌜ Makes row (now (rows .entry)) (now (buckets .entry)) state (now (rows .exit)) (now (buckets .exit)) r ⌝ }
 {
-    let made = types::intern(rows, state.rows, row);
+    let made = types::intern(rows, buckets, state.rows, row);
     match made {
         Interned::At { number, count } => Typed {
             ty: number,

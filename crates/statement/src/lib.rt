@@ -66,11 +66,12 @@ fn variable_declaration(
     output: &mut [u8],
     errors: &mut [u32],
     rows: &mut [u32],
+    buckets: &mut [u16; lookup::LENGTH],
     state: State,
 ) -> State
     requires { ⌜ FineRecord (now s) depth at (length (now s)) aStatement × (kindAt (now s) at ≡ 66) ⌝ }
-    requires { ⌜ Ready (now s) (lent (now work) (now output) (now errors) (now rows) state) ⌝ }
-    ensures { λ r. ⌜ CheckedForAny (now (s .entry)) names depth at (lent (now (work .entry)) (now (output .entry)) (now (errors .entry)) (now (rows .entry)) state) (lent (now (work .exit)) (now (output .exit)) (now (errors .exit)) (now (rows .exit)) r) ⌝ }
+    requires { ⌜ Ready (now s) (lent (now work) (now output) (now errors) (now rows) (now buckets) state) ⌝ }
+    ensures { λ r. ⌜ CheckedForAny (now (s .entry)) names depth at (lent (now (work .entry)) (now (output .entry)) (now (errors .entry)) (now (rows .entry)) (now (buckets .entry)) state) (lent (now (work .exit)) (now (output .exit)) (now (errors .exit)) (now (rows .exit)) (now (buckets .exit)) r) ⌝ }
 {
     let start = at + NAMED_PARTS;
     let converted = convert_node_type(
@@ -82,6 +83,7 @@ fn variable_declaration(
         output,
         errors,
         rows,
+        buckets,
         state,
     );
     let local = declare_local(s, at, converted.ty, work, errors, converted.state);
@@ -99,6 +101,7 @@ fn variable_declaration(
         output,
         errors,
         rows,
+        buckets,
         local.state,
     )
 }
@@ -113,11 +116,12 @@ fn assignment(
     output: &mut [u8],
     errors: &mut [u32],
     rows: &mut [u32],
+    buckets: &mut [u16; lookup::LENGTH],
     state: State,
 ) -> State
     requires { ⌜ FineRecord (now s) depth at (length (now s)) aStatement × (kindAt (now s) at ≡ 67) ⌝ }
-    requires { ⌜ Ready (now s) (lent (now work) (now output) (now errors) (now rows) state) ⌝ }
-    ensures { λ r. ⌜ CheckedForAny (now (s .entry)) names depth at (lent (now (work .entry)) (now (output .entry)) (now (errors .entry)) (now (rows .entry)) state) (lent (now (work .entry)) (now (output .exit)) (now (errors .exit)) (now (rows .exit)) r) ⌝ }
+    requires { ⌜ Ready (now s) (lent (now work) (now output) (now errors) (now rows) (now buckets) state) ⌝ }
+    ensures { λ r. ⌜ CheckedForAny (now (s .entry)) names depth at (lent (now (work .entry)) (now (output .entry)) (now (errors .entry)) (now (rows .entry)) (now (buckets .entry)) state) (lent (now (work .entry)) (now (output .exit)) (now (errors .exit)) (now (rows .exit)) (now (buckets .exit)) r) ⌝ }
 {
     let first = at + PARTS;
     let target = type_check_expression(
@@ -129,6 +133,7 @@ fn assignment(
         output,
         errors,
         rows,
+        buckets,
         state,
     );
     let second = first + length_at(s, first);
@@ -141,6 +146,7 @@ fn assignment(
         output,
         errors,
         rows,
+        buckets,
         target.state,
     );
     check_types_are_assignable(s, at, target.ty, value.ty, errors, rows, value.state)
@@ -156,11 +162,12 @@ fn compound_assignment(
     output: &mut [u8],
     errors: &mut [u32],
     rows: &mut [u32],
+    buckets: &mut [u16; lookup::LENGTH],
     state: State,
 ) -> State
     requires { ⌜ FineRecord (now s) depth at (length (now s)) aStatement × (kindAt (now s) at ≡ 68) ⌝ }
-    requires { ⌜ Ready (now s) (lent (now work) (now output) (now errors) (now rows) state) ⌝ }
-    ensures { λ r. ⌜ CheckedForAny (now (s .entry)) names depth at (lent (now (work .entry)) (now (output .entry)) (now (errors .entry)) (now (rows .entry)) state) (lent (now (work .entry)) (now (output .exit)) (now (errors .exit)) (now (rows .exit)) r) ⌝ }
+    requires { ⌜ Ready (now s) (lent (now work) (now output) (now errors) (now rows) (now buckets) state) ⌝ }
+    ensures { λ r. ⌜ CheckedForAny (now (s .entry)) names depth at (lent (now (work .entry)) (now (output .entry)) (now (errors .entry)) (now (rows .entry)) (now (buckets .entry)) state) (lent (now (work .entry)) (now (output .exit)) (now (errors .exit)) (now (rows .exit)) (now (buckets .exit)) r) ⌝ }
 {
     let first = at + PARTS;
     let target = type_check_expression(
@@ -172,6 +179,7 @@ fn compound_assignment(
         output,
         errors,
         rows,
+        buckets,
         state,
     );
     let second = first + length_at(s, first);
@@ -185,6 +193,7 @@ fn compound_assignment(
         output,
         errors,
         rows,
+        buckets,
         target.state,
     )
 }
@@ -226,11 +235,12 @@ fn return_statement(
     output: &mut [u8],
     errors: &mut [u32],
     rows: &mut [u32],
+    buckets: &mut [u16; lookup::LENGTH],
     state: State,
 ) -> State
     requires { ⌜ FineRecord (now s) depth at (length (now s)) aStatement × (kindAt (now s) at ≡ 69) ⌝ }
-    requires { ⌜ Ready (now s) (lent (now work) (now output) (now errors) (now rows) state) × OneType (now rows) (state .rows) returned ⌝ }
-    ensures { λ r. ⌜ StatementCheckedAt (now (s .entry)) names depth at returned (lent (now (work .entry)) (now (output .entry)) (now (errors .entry)) (now (rows .entry)) state) (lent (now (work .entry)) (now (output .exit)) (now (errors .exit)) (now (rows .exit)) r) ⌝ }
+    requires { ⌜ Ready (now s) (lent (now work) (now output) (now errors) (now rows) (now buckets) state) × OneType (now rows) (state .rows) returned ⌝ }
+    ensures { λ r. ⌜ StatementCheckedAt (now (s .entry)) names depth at returned (lent (now (work .entry)) (now (output .entry)) (now (errors .entry)) (now (rows .entry)) (now (buckets .entry)) state) (lent (now (work .entry)) (now (output .exit)) (now (errors .exit)) (now (rows .exit)) (now (buckets .exit)) r) ⌝ }
 {
     if length_at(s, at) <= PARTS {
         return return_without_value(s, at, returned, errors, rows, state);
@@ -244,6 +254,7 @@ fn return_statement(
         output,
         errors,
         rows,
+        buckets,
         state,
     );
     check_types_are_assignable(s, at, returned, value.ty, errors, rows, value.state)
@@ -259,11 +270,12 @@ fn condition(
     output: &mut [u8],
     errors: &mut [u32],
     rows: &mut [u32],
+    buckets: &mut [u16; lookup::LENGTH],
     state: State,
 ) -> State
     requires { ⌜ FineRecord (now s) (depth - 1) (at + 16) (length (now s)) anExpression ⌝ }
-    requires { ⌜ Ready (now s) (lent (now work) (now output) (now errors) (now rows) state) ⌝ }
-    ensures { λ r. ⌜ ConditionCheckedAt (now (s .entry)) names depth at (lent (now (work .entry)) (now (output .entry)) (now (errors .entry)) (now (rows .entry)) state) (lent (now (work .entry)) (now (output .exit)) (now (errors .exit)) (now (rows .exit)) r) ⌝ }
+    requires { ⌜ Ready (now s) (lent (now work) (now output) (now errors) (now rows) (now buckets) state) ⌝ }
+    ensures { λ r. ⌜ ConditionCheckedAt (now (s .entry)) names depth at (lent (now (work .entry)) (now (output .entry)) (now (errors .entry)) (now (rows .entry)) (now (buckets .entry)) state) (lent (now (work .entry)) (now (output .exit)) (now (errors .exit)) (now (rows .exit)) (now (buckets .exit)) r) ⌝ }
 {
     let value = type_check_expression(
         s,
@@ -274,6 +286,7 @@ fn condition(
         output,
         errors,
         rows,
+        buckets,
         state,
     );
     check_types_are_assignable(s, at, types::BOOL, value.ty, errors, rows, value.state)
@@ -291,11 +304,12 @@ fn own_parts(
     output: &mut [u8],
     errors: &mut [u32],
     rows: &mut [u32],
+    buckets: &mut [u16; lookup::LENGTH],
     state: State,
 ) -> State
     requires { ⌜ FineRecord (now s) depth at (length (now s)) aStatement × InnerOf (now s) depth at inner ⌝ }
-    requires { ⌜ Ready (now s) (lent (now work) (now output) (now errors) (now rows) state) × OneType (now rows) (state .rows) returned ⌝ }
-    ensures { λ r. ⌜ OwnPartsChecked (now (s .entry)) names depth at inner returned (lent (now (work .entry)) (now (output .entry)) (now (errors .entry)) (now (rows .entry)) state) (lent (now (work .exit)) (now (output .exit)) (now (errors .exit)) (now (rows .exit)) r) ⌝ }
+    requires { ⌜ Ready (now s) (lent (now work) (now output) (now errors) (now rows) (now buckets) state) × OneType (now rows) (state .rows) returned ⌝ }
+    ensures { λ r. ⌜ OwnPartsChecked (now (s .entry)) names depth at inner returned (lent (now (work .entry)) (now (output .entry)) (now (errors .entry)) (now (rows .entry)) (now (buckets .entry)) state) (lent (now (work .exit)) (now (output .exit)) (now (errors .exit)) (now (rows .exit)) (now (buckets .exit)) r) ⌝ }
 {
     let kind = inner.kind;
     match kind {
@@ -309,13 +323,47 @@ fn own_parts(
                 output,
                 errors,
                 rows,
+                buckets,
                 state,
             );
             value.state
         }
-        66 => variable_declaration(s, names, work, at, depth, output, errors, rows, state),
-        67 => assignment(s, names, work, at, depth, output, errors, rows, state),
-        68 => compound_assignment(s, names, work, at, depth, output, errors, rows, state),
+        66 => variable_declaration(
+            s,
+            names,
+            work,
+            at,
+            depth,
+            output,
+            errors,
+            rows,
+            buckets,
+            state,
+        ),
+        67 => assignment(
+            s,
+            names,
+            work,
+            at,
+            depth,
+            output,
+            errors,
+            rows,
+            buckets,
+            state,
+        ),
+        68 => compound_assignment(
+            s,
+            names,
+            work,
+            at,
+            depth,
+            output,
+            errors,
+            rows,
+            buckets,
+            state,
+        ),
         69 => return_statement(
             s,
             names,
@@ -326,9 +374,21 @@ fn own_parts(
             output,
             errors,
             rows,
+            buckets,
             state,
         ),
-        71 | 73 => condition(s, names, work, at, depth, output, errors, rows, state),
+        71 | 73 => condition(
+            s,
+            names,
+            work,
+            at,
+            depth,
+            output,
+            errors,
+            rows,
+            buckets,
+            state,
+        ),
         _ => state,
     }
 }
@@ -344,11 +404,12 @@ pub fn type_check_statement(
     output: &mut [u8],
     errors: &mut [u32],
     rows: &mut [u32],
+    buckets: &mut [u16; lookup::LENGTH],
     state: State,
 ) -> State
     requires { ⌜ FineRecord (now s) depth at (length (now s)) aStatement ⌝ }
-    requires { ⌜ Ready (now s) (lent (now work) (now output) (now errors) (now rows) state) × OneType (now rows) (state .rows) returned ⌝ }
-    ensures { λ r. ⌜ StatementCheckedAt (now (s .entry)) names depth at returned (lent (now (work .entry)) (now (output .entry)) (now (errors .entry)) (now (rows .entry)) state) (lent (now (work .exit)) (now (output .exit)) (now (errors .exit)) (now (rows .exit)) r) ⌝ }
+    requires { ⌜ Ready (now s) (lent (now work) (now output) (now errors) (now rows) (now buckets) state) × OneType (now rows) (state .rows) returned ⌝ }
+    ensures { λ r. ⌜ StatementCheckedAt (now (s .entry)) names depth at returned (lent (now (work .entry)) (now (output .entry)) (now (errors .entry)) (now (rows .entry)) (now (buckets .entry)) state) (lent (now (work .exit)) (now (output .exit)) (now (errors .exit)) (now (rows .exit)) (now (buckets .exit)) r) ⌝ }
 {
     let inner = inner_statements(s, at, depth);
     let start = inner.start;
@@ -364,6 +425,7 @@ pub fn type_check_statement(
         output,
         errors,
         rows,
+        buckets,
         state,
     );
     type_check_block(
@@ -377,6 +439,7 @@ pub fn type_check_statement(
         output,
         errors,
         rows,
+        buckets,
         next,
     )
 }
@@ -393,11 +456,12 @@ fn type_check_block(
     output: &mut [u8],
     errors: &mut [u32],
     rows: &mut [u32],
+    buckets: &mut [u16; lookup::LENGTH],
     state: State,
 ) -> State
     requires { ⌜ FineList (now s) depth from end Statements ⌝ }
-    requires { ⌜ Ready (now s) (lent (now work) (now output) (now errors) (now rows) state) × OneType (now rows) (state .rows) returned ⌝ }
-    ensures { λ r. ⌜ BlockCheckedAt (now (s .entry)) names depth from end returned (lent (now (work .entry)) (now (output .entry)) (now (errors .entry)) (now (rows .entry)) state) (lent (now (work .exit)) (now (output .exit)) (now (errors .exit)) (now (rows .exit)) r) ⌝ }
+    requires { ⌜ Ready (now s) (lent (now work) (now output) (now errors) (now rows) (now buckets) state) × OneType (now rows) (state .rows) returned ⌝ }
+    ensures { λ r. ⌜ BlockCheckedAt (now (s .entry)) names depth from end returned (lent (now (work .entry)) (now (output .entry)) (now (errors .entry)) (now (rows .entry)) (now (buckets .entry)) state) (lent (now (work .exit)) (now (output .exit)) (now (errors .exit)) (now (rows .exit)) (now (buckets .exit)) r) ⌝ }
 {
     let mut at = from;
     let mut next = state;
@@ -412,6 +476,7 @@ fn type_check_block(
             output,
             errors,
             rows,
+            buckets,
             next,
         );
         at = at + length_at(s, at);

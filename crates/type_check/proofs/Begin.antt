@@ -23,9 +23,9 @@ zeros zero i = refl
 zeros (suc n) zero = refl
 zeros (suc n) (suc i) = zeros n i
 
-module _ (input work output errors rows : List ℕ) (st : State) (zero-words : (i : ℕ) → getD work i 0 ≡ 0) where
+module _ (input work output errors rows : List ℕ) {buckets : List ℕ} (st : State) (zero-words : (i : ℕ) → getD work i 0 ≡ 0) where
   -- hold no type for any name
-  no-words : Scope (lent work output errors rows st) (context (emptyContext (builtInsOf input)) blank)
+  no-words : Scope (lent work output errors rows buckets st) (context (emptyContext (builtInsOf input)) blank)
   unfolding Holds
   no-words = record { holds = λ f name which low fits. held name which }
     where
@@ -37,5 +37,5 @@ module _ (input work output errors rows : List ℕ) (st : State) (zero-words : (
       held name (suc (suc (suc (suc n)))) = zero-words (wordPlace name (suc (suc (suc (suc n)))))
 
   -- so they hold the context that pass 1 begins with
-  pub empty-words : repeatedName input ≡ Nowhere → Resolves input (builtIns input) (lent work output errors rows st) (context (emptyContext (builtInsOf input)) blank)
+  pub empty-words : repeatedName input ≡ Nowhere → Resolves input (builtIns input) (lent work output errors rows buckets st) (context (emptyContext (builtInsOf input)) blank)
   empty-words once = record { scope = no-words; builtIns = λ name known. built-ins input once name known }

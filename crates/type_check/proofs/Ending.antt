@@ -26,6 +26,7 @@ use Rattle.meaning.specs.Module.{emptyContext, neededTypes}
 use Rattle.meaning.specs.Promise.{workWidth, builtInsOf, contextOf, errorsOf, typesOf, Counts, countsOf, Buffers, lengthsOf, Accepted, cleared}
 use Rattle.state.specs.Effect.{Effect, nothing, _then_, needed}
 use Rattle.state.specs.declared.State.{State}
+use Rattle.lookup.specs.Buckets.{Indexed}
 use Rattle.state.specs.Represents.{Lent, lent, Good, Told, Stands, Represents}
 use Rattle.state.proofs.Ends.{begin, begin-good, end-rows, end-full, end-crowded, end-errors, end-listed, end-operands, end-past}
 use Rattle.state.proofs.Laws.{needed-within}
@@ -49,13 +50,13 @@ past-same n a b l f =
 nothing-then : (e : Effect) → nothing then e ≡ e
 nothing-then e = let n : 0 + e .steps ≡ e .steps = omega arith in λ i. record { stores = e .stores; errors = e .errors; met = e .met; steps = n i }
 
-module _ {input output rows rows₇ errors work output′ rows′ errors′ work′ : List ℕ} {B : Lent} {r : State} {len : ℕ} {names : BuiltIns}
+module _ {input output rows rows₇ buckets errors work output′ rows′ buckets′ errors′ work′ : List ℕ} {B : Lent} {r : State} {len : ℕ} {names : BuiltIns}
     (at : len ≡ wordAt input 16) (numbers : names ≡ builtIns input) (passed : Passed input (length output) (length work)) (copied : output ≡ input ++ drop (length input) output)
     (empty : work ≡ replicate (workWidth * nameCount input) 0) (fixed : FixedStored rows rows₇)
     (sameErrors : length errors′ ≡ length errors)
     (declared : AllDeclared input names (itemsAt input 63 (16 + len) (length input)) (16 + len) (length input)
-    (lent work output errors rows₇ (record { errors = 0; rows = 7; full = false })) B)
-    (checked : ItemsChecked input names (itemsAt input 63 (16 + len) (length input)) (16 + len) (length input) B (lent work′ output′ errors′ rows′ r)) where
+    (lent work output errors rows₇ buckets (record { errors = 0; rows = 7; full = false })) B)
+    (checked : ItemsChecked input names (itemsAt input 63 (16 + len) (length input)) (16 + len) (length input) B (lent work′ output′ errors′ rows′ buckets′ r)) where
   few : length input ≤ maxBytes
   few = module-parts input (passed .layout) .few
 
@@ -63,14 +64,14 @@ module _ {input output rows rows₇ errors work output′ rows′ errors′ work
   zero-words i = ap (λ (l : List ℕ). getD l i 0) empty ∙ zeros (workWidth * nameCount input) i
 
   -- The state stands for the whole effect
-  stands : Represents output errors (lent work′ output′ errors′ rows′ r) (moduleEffect input)
+  stands : Represents output errors (lent work′ output′ errors′ rows′ buckets′ r) (moduleEffect input)
   stands =
       let start = empty-words input work output errors rows₇ (record { errors = 0; rows = 7; full = false }) zero-words (passed .names) in
       let place : (A : Lent) → AllDeclared input (names) (itemsAt input 63 (16 + len) (length input)) (16 + len) (length input) A B → AllDeclared input (builtIns input) (itemsAt input 63 (16 + wordAt input 16) (length input)) (16 + wordAt input 16) (length input) A B =
       (λ A d. subst (λ (k : ℕ). AllDeclared input (builtIns input) (itemsAt input 63 (16 + k) (length input)) (16 + k) (length input) A B) at (subst (λ (n : BuiltIns). AllDeclared input n (itemsAt input 63 (16 + len) (length input)) (16 + len) (length input) A B) numbers d)) in
-      let c = subst (λ (k : ℕ). ItemsChecked input (builtIns input) (itemsAt input 63 (16 + k) (length input)) (16 + k) (length input) B (lent work′ output′ errors′ rows′ r)) at
-      (subst (λ (n : BuiltIns). ItemsChecked input n (itemsAt input 63 (16 + len) (length input)) (16 + len) (length input) B (lent work′ output′ errors′ rows′ r)) numbers checked) in
-      subst (Represents output errors (lent work′ output′ errors′ rows′ r)) (nothing-then (moduleEffect input))
+      let c = subst (λ (k : ℕ). ItemsChecked input (builtIns input) (itemsAt input 63 (16 + k) (length input)) (16 + k) (length input) B (lent work′ output′ errors′ rows′ buckets′ r)) at
+      (subst (λ (n : BuiltIns). ItemsChecked input n (itemsAt input 63 (16 + len) (length input)) (16 + len) (length input) B (lent work′ output′ errors′ rows′ buckets′ r)) numbers checked) in
+      subst (Represents output errors (lent work′ output′ errors′ rows′ buckets′ r)) (nothing-then (moduleEffect input))
       (both-passes input (passed .layout) start (place _ declared) c .does output errors nothing (begin fixed work output errors))
 
   table : Table rows′ (r .rows)
@@ -163,16 +164,16 @@ module _ {input : List ℕ} {outputs works : ℕ} (passed : Passed input outputs
   pub items-list : {len : ℕ} → len ≡ wordAt input 16 → FineList input 63 (16 + len) (length input) Items
   items-list e = subst (λ (k : ℕ). FineList input 63 (16 + k) (length input) Items) (sym e) (module-parts input (passed .layout) .items)
 
-pub first-ready : {input output rows rows₇ errors work : List ℕ} → Passed input (length output) (length work) → work ≡ replicate (workWidth * nameCount input) 0 → FixedStored rows rows₇ → Ready input (lent work output errors rows₇ (record { errors = 0; rows = 7; full = false }))
-first-ready {input} {output} {rows} {rows₇} {errors} {work} passed e fixed =
+pub first-ready : {input output rows rows₇ buckets errors work : List ℕ} → Passed input (length output) (length work) → work ≡ replicate (workWidth * nameCount input) 0 → FixedStored rows rows₇ → Indexed rows₇ 7 buckets → Ready input (lent work output errors rows₇ buckets (record { errors = 0; rows = 7; full = false }))
+first-ready {input} {output} {rows} {rows₇} {buckets} {errors} {work} passed e fixed indexed =
     record {
-      good = begin-good fixed work output errors (λ i. ap (λ (l : List ℕ). getD l i 0) e ∙ zeros (workWidth * nameCount input) i);
+      good = begin-good fixed work output errors indexed (λ i. ap (λ (l : List ℕ). getD l i 0) e ∙ zeros (workWidth * nameCount input) i);
       long = passed .long;
       wide = passed .wide;
     }
 
-pub second-ready : {input output rows₇ errors work : List ℕ} {items : List Item} {from : ℕ} {names : BuiltIns} {B : Lent} {st : State} → Passed input (length output) (length work)
-    → AllDeclared input names items from (length input) (lent work output errors rows₇ st) B → Ready input B
+pub second-ready : {input output rows₇ buckets errors work : List ℕ} {items : List Item} {from : ℕ} {names : BuiltIns} {B : Lent} {st : State} → Passed input (length output) (length work)
+    → AllDeclared input names items from (length input) (lent work output errors rows₇ buckets st) B → Ready input B
 second-ready passed d =
     record {
       good = d .walked .grew .good;

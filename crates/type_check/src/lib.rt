@@ -147,6 +147,8 @@ fn both_passes(
         };
     }
     types::put_fixed_rows(rows);
+    let mut buckets = [0u16; lookup::LENGTH];
+    lookup::link_all(rows, types::FIXED_COUNT, &mut buckets);
     let names = built_ins(input);
     let from = NAMES + length_at(input, NAMES);
     let end = input.len();
@@ -165,6 +167,7 @@ fn both_passes(
         output,
         errors,
         rows,
+        &mut buckets,
         start,
     );
     type_check_items(
@@ -177,6 +180,7 @@ fn both_passes(
         output,
         errors,
         rows,
+        &mut buckets,
         declared,
     )
 }

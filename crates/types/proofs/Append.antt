@@ -9,6 +9,8 @@ use borrow.Author.Tests.{eqb-false}
 use lib.Dec.{eqb, ltb}
 use lib.ListN.{length, getD, set, length-set}
 use lib.Seq.{getD-set-same, getD-set-other}
+use Rattle.lookup.specs.Buckets.{withRow, Indexed}
+use Rattle.lookup.proofs.Index.{indexed-kept, indexed-more}
 use Rattle.types.specs.Table.{Words, words, rowAt, build, unfolded, hasType, Table, RowOk, Extends}
 use Rattle.types.specs.Post.{Added, Found, highestPart, stored}
 use Rattle.types.proofs.Laws.{unfolded-row, build-below, words-injective, first-at-most, second-at-most, first-lower, second-lower}
@@ -65,10 +67,16 @@ module _ (w : List ℕ) (c : ℕ) (r : Words) where
             let l : 4 * c + 3 < length (set (set (set w (4 * c) (r .kind)) (4 * c + 1) (r .first)) (4 * c + 2) (r .second)) = simp length-set (omega arith) in
             simp (getD-set-same, l)
 
-    module _ (t : Table w c) (ok : RowOk w c r) where
-      kept : Kept w (stored w c r) c
-      kept i h = stored-other i (inl h)
+    kept : Kept w (stored w c r) c
+    kept i h = stored-other i (inl h)
 
+    -- It comes into the index of the rows
+    pub stored-indexed : {w′ : List ℕ} → w′ ≡ stored w c r → {b b′ : List ℕ} → Indexed w c b → b′ ≡ withRow b (c + 1) r → Indexed w′ (c + 1) b′
+    stored-indexed {w′} e {b} {b′} x q =
+        let more = indexed-more (indexed-kept x (kept-row w (stored w c r) c kept)) r stored-row in
+        subst (λ (v : List ℕ). Indexed v (c + 1) b′) (sym e) (subst (Indexed (stored w c r) (c + 1)) (sym q) more)
+
+    module _ (t : Table w c) (ok : RowOk w c r) where
       extends : Extends w c (stored w c r) (c + 1)
       extends = record { more = omega arith; long = simp length-set; kept = kept; past = λ i h. stored-other i (inr (omega arith)) }
 

@@ -81,6 +81,11 @@ abbrev pub InternPost : List ℕ → (count : ℕ) → Row → List ℕ → Inte
 InternPost w count r w′ (At n count′) = Added w count (typeOf r (unfolded w)) w′ n count′ × Sort w′ count′ r n
 InternPost w count r w′ Full = NoRoom w count (typeOf r (unfolded w)) w′
 
+-- How many rows there are after `intern`
+abbrev pub countAfter : (count : ℕ) → Interned → ℕ
+countAfter count (At n count′) = count′
+countAfter count Full = count
+
 -- The seven fixed rows are stored, and no other word is changed
 pub record FixedStored (w w′ : List ℕ) : Type 0 where
   pub table : Table w′ fixedCount

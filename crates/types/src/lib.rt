@@ -2,15 +2,15 @@
 // Whoever calls these functions knows a row only by the type that it unfolds to.
 use rows::ROW_WIDTH;
 use rows::Words;
-use rows::find;
 use rows::row_at;
 use rows::store;
 ghost use mathlib.Core.Path.{_≡_};
 ghost use Prim.Native.Nat.{_+_, _*_, _^_, _≤_, _<_};
 ghost use lib.ListN.{length};
+ghost use Rattle.lookup.specs.Buckets.{Indexed};
 ghost use Rattle.types.specs.Ty.{kindOf, firstOf, secondOf, sizeOf, nameOf, desugar as desugared, removeAliasing, cellCount, fieldNamed, arrayKind, structKind, functionKind, fieldKind, argumentKind};
 ghost use Rattle.types.specs.Table.{rowWidth, fixedCount, unfolded, Table, IsType, IsList};
-ghost use Rattle.types.specs.Post.{wordsOf, highestPart, PartsOk, InternPost, FixedStored, HasTypePart, TypePart, CellPart, FoundType};
+ghost use Rattle.types.specs.Post.{wordsOf, highestPart, PartsOk, InternPost, countAfter, FixedStored, HasTypePart, TypePart, CellPart, FoundType};
 
 // The rows that every table begins with, and their words.
 pub const FIXED_COUNT: u32 = 7;
@@ -264,13 +264,20 @@ fn highest_part(row: Words) -> u32
 
 // The row that is asked for: found, or added behind the first `count` rows.
 // A row stands behind its parts, so the search starts behind the highest of them.
-pub fn intern(rows: &mut [u32], count: u32, row: Row) -> Interned
+pub fn intern(
+    rows: &mut [u32],
+    buckets: &mut [u16; lookup::LENGTH],
+    count: u32,
+    row: Row,
+) -> Interned
     requires { ⌜ Table (now rows) count × PartsOk (now rows) count row ⌝ }
+    requires { ⌜ Indexed (now rows) count (now buckets) ⌝ }
     ensures { λ r. ⌜ InternPost (now (rows .entry)) count row (now (rows .exit)) r ⌝ }
+    ensures { λ r. ⌜ Indexed (now (rows .exit)) (countAfter count r) (now (buckets .exit)) ⌝ }
 {
     let wanted = words_of(row);
     let below = highest_part(wanted);
-    let n = find(rows, below, count, wanted);
+    let n = lookup::find(rows, buckets, below, count, wanted);
     if n != 0 {
         return Interned::At { number: n, count };
     }
@@ -281,6 +288,7 @@ pub fn intern(rows: &mut [u32], count: u32, row: Row) -> Interned
         return Interned::Full;
     }
     store(rows, count, wanted);
+    lookup::link(buckets, count + 1, wanted);
     Interned::At {
         number: count + 1,
         count: count + 1,

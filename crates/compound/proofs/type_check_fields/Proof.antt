@@ -9,16 +9,12 @@ use Rattle.expression.proofs.Heads as heads
 use Rattle.compound.proofs.Fields as laws
 use Rattle.compound.proofs.type_check_fields.Statement.{statement}
 use Rattle.compound.proofs.type_check_fields.Tie as tie
-use Rattle.compound.proofs.type_check_fields.Reads as reads
-use Rattle.compound.proofs.type_check_fields.Lts as lts
-use Rattle.expression.proofs.type_check_expression.Reads as type-check-expression-reads
-use Rattle.node.proofs.bytes.length_at.Reads as length-at-reads
 
 abbrev Inv-loop : tie.InvT-loop
-Inv-loop s names work from end depth output₀ errors₀ rows₀ at₀ next₀ output errors rows at next = laws.Checking s names depth end from (lent work output₀ errors₀ rows₀ next₀) at (lent work output errors rows next) × (length errors ≡ length errors₀)
+Inv-loop s names work from end depth output₀ errors₀ rows₀ buckets₀ at₀ next₀ output errors rows buckets at next = laws.Checking s names depth end from (lent work output₀ errors₀ rows₀ buckets₀ next₀) at (lent work output errors rows buckets next) × (length errors ≡ length errors₀)
 
 abbrev μ-loop : tie.MeasureT-loop
-μ-loop s names work from end depth output₀ errors₀ rows₀ at₀ next₀ output errors rows at next = end - at
+μ-loop s names work from end depth output₀ errors₀ rows₀ buckets₀ at₀ next₀ output errors rows buckets at next = end - at
 
 loop-holds : tie.Need-loop-holds Inv-loop μ-loop
 loop-holds c = (laws.checking-start _ _ _ _ (c .before .before .before .before .before .pre .0) (c .before .before .before .before .before .pre .1), refl)
@@ -30,19 +26,19 @@ sub-type-check-expression : tie.Need-sub-type-check-expression Inv-loop μ-loop
 sub-type-check-expression c = omega (arith, laws.field _ _ _ _ (c .before .loop .inv .0) (c .loop-test .taken) .room .deep)
 
 type-check-expression-requires : tie.Need-type-check-expression-requires Inv-loop μ-loop
-type-check-expression-requires c κs = (laws.field _ _ _ _ (c .before .before .before .before .loop .inv .0) (c .before .before .before .loop-test .taken) .value, (c .before .before .before .before .loop .inv .0) .ready)
+type-check-expression-requires c κs = (laws.field _ _ _ _ (c .before .before .before .before .before .loop .inv .0) (c .before .before .before .before .loop-test .taken) .value, (c .before .before .before .before .before .loop .inv .0) .ready)
 
 length-at-requires : tie.Need-length-at-requires Inv-loop μ-loop
-length-at-requires c κs = let f = laws.field _ _ _ _ (c .before .before .before .before .before .before .before .before .before .before .before .before .loop .inv .0) (c .before .before .before .before .before .before .before .before .before .before .before .loop-test .taken) in omega (arith, f .room .head, f .room .ends)
+length-at-requires c κs = let f = laws.field _ _ _ _ (c .before .before .before .before .before .before .before .before .before .before .before .before .before .loop .inv .0) (c .before .before .before .before .before .before .before .before .before .before .before .before .loop-test .taken) in omega (arith, f .room .head, f .room .ends)
 
 add-at : tie.Need-add-at Inv-loop μ-loop
-add-at c = let f = laws.field _ _ _ _ (c .before .before .before .before .before .before .before .before .before .before .before .before .before .loop .inv .0) (c .before .before .before .before .before .before .before .before .before .before .before .before .loop-test .taken) in omega (arith, f .room .ends, f .room .few, c .length-at .ensures .is)
+add-at c = search needs
 
 loop-less : tie.Need-loop-less Inv-loop μ-loop
-loop-less c = let f = laws.field _ _ _ _ (c .before .before .before .before .before .before .before .before .before .before .before .before .before .loop .inv .0) (c .before .before .before .before .before .before .before .before .before .before .before .before .loop-test .taken) in omega (arith, f .room .head, c .before .before .before .before .before .before .before .before .before .before .before .before .loop-test .taken, c .length-at .ensures .is)
+loop-less c = let f = laws.field _ _ _ _ (c .before .before .before .before .before .before .before .before .before .before .before .before .before .before .loop .inv .0) (c .before .before .before .before .before .before .before .before .before .before .before .before .before .loop-test .taken) in omega (arith, f .room .head, c .before .before .before .before .before .before .before .before .before .before .before .before .before .loop-test .taken, c .length-at .ensures .is)
 
 loop-again : tie.Need-loop-again Inv-loop μ-loop
-loop-again c = (laws.checking-on _ _ _ _ (c .before .before .before .before .before .before .before .before .before .before .before .before .before .loop .inv .0) (c .before .before .before .before .before .before .before .before .before .before .before .before .loop-test .taken) _ refl (c .before .before .before .before .before .before .before .before .type-check-expression .ensures) _ (heads.stops-at _ _ _ (c .length-at .ensures)), omega (arith, c .before .before .before .before .before .before .before .before .type-check-expression .kept .1 .1 .1 .1 .1 .1 .0, c .before .before .before .before .before .before .before .before .before .before .before .before .before .loop .inv .1))
+loop-again c = (laws.checking-on _ _ _ _ (c .before .before .before .before .before .before .before .before .before .before .before .before .before .before .loop .inv .0) (c .before .before .before .before .before .before .before .before .before .before .before .before .before .loop-test .taken) _ refl (c .before .before .before .before .before .before .before .before .type-check-expression .ensures) _ (heads.stops-at _ _ _ (c .length-at .ensures)), omega (arith, c .before .before .before .before .before .before .before .before .type-check-expression .kept .1 .1 .1 .1 .1 .1 .0, c .before .before .before .before .before .before .before .before .before .before .before .before .before .before .loop .inv .1))
 
 same-length : tie.Need-same-length Inv-loop μ-loop
 same-length c = search needs

@@ -5,7 +5,7 @@ use Rattle.convert.proofs.Heads as heads
 use mathlib.Core.Path.{sym, _∙_}
 use native.Mathlib.Omega.{arith}
 use borrow.Author.Needs.{needs}
-use Prim.Native.Nat.{ℕ, _<_, _+_, _-_, _*_}
+use Prim.Native.Nat.{ℕ, _+_, _-_, _*_, _<_}
 use borrow.Fn.Kinds.{In}
 use borrow.Fn.PlainCycle.{Measures, is, falls, and}
 use Rattle.convert.proofs.convert_array.Reads as convert-array
@@ -31,102 +31,98 @@ use Rattle.convert.proofs.type_kind.Reads as type-kind-reads
 use Rattle.node.proofs.bytes.length_at.Reads as length-at-reads
 use Rattle.node.proofs.bytes.word.Reads as word-reads
 use Rattle.state.proofs.make.Reads as make-reads
-use Rattle.convert.proofs.+convert_array+convert_fields+convert_node_type+convert_pointer+convert_struct.{
-  statement,
-}
-use Rattle.convert.proofs.+convert_array+convert_fields+convert_node_type+convert_pointer+convert_struct.Tie.{
-  close,
-}
+use Rattle.convert.proofs.+convert_array+convert_fields+convert_node_type+convert_pointer+convert_struct.{statement}
+use Rattle.convert.proofs.+convert_array+convert_fields+convert_node_type+convert_pointer+convert_struct.Tie.{close}
 
-abbrev μ-convert-array : Measures 5 convert-array-kinds.ps ℕ
+abbrev μ-convert-array : Measures 6 convert-array-kinds.ps ℕ
 μ-convert-array κs a = a .1 .1 .1 .1 .0 * 131072
 
-abbrev μ-convert-fields : Measures 5 convert-fields-kinds.ps ℕ
+abbrev μ-convert-fields : Measures 6 convert-fields-kinds.ps ℕ
 μ-convert-fields κs a = a .1 .1 .1 .1 .1 .0 * 131072 + (a .1 .1 .1 .1 .0 - a .1 .1 .1 .0) + 1
 
-abbrev μ-convert-node-type : Measures 5 convert-node-type-kinds.ps ℕ
+abbrev μ-convert-node-type : Measures 6 convert-node-type-kinds.ps ℕ
 μ-convert-node-type κs a = a .1 .1 .1 .1 .0 * 131072 + 1
 
-abbrev μ-convert-pointer : Measures 5 convert-pointer-kinds.ps ℕ
+abbrev μ-convert-pointer : Measures 6 convert-pointer-kinds.ps ℕ
 μ-convert-pointer κs a = a .1 .1 .1 .1 .0 * 131072
 
-abbrev μ-convert-struct : Measures 5 convert-struct-kinds.ps ℕ
+abbrev μ-convert-struct : Measures 6 convert-struct-kinds.ps ℕ
 μ-convert-struct κs a = a .1 .1 .1 .1 .0 * 131072
 
-abbrev convert-array-at : ℕ → In 5 convert-array-kinds.ps
+abbrev convert-array-at : ℕ → In 6 convert-array-kinds.ps
 convert-array-at t =
-    and 5 convert-array-kinds.ps (is 5 convert-array-kinds.ps μ-convert-array t) convert-array.Pre
+    and 6 convert-array-kinds.ps (is 6 convert-array-kinds.ps μ-convert-array t) convert-array.Pre
 
-abbrev convert-array-below : ℕ → In 5 convert-array-kinds.ps
+abbrev convert-array-below : ℕ → In 6 convert-array-kinds.ps
 convert-array-below t =
     and
-    5
+    6
     convert-array-kinds.ps
-    (falls 5 convert-array-kinds.ps _<_ μ-convert-array t)
+    (falls 6 convert-array-kinds.ps _<_ μ-convert-array t)
     convert-array.Pre
 
-abbrev convert-fields-at : ℕ → In 5 convert-fields-kinds.ps
+abbrev convert-fields-at : ℕ → In 6 convert-fields-kinds.ps
 convert-fields-at t =
     and
-    5
+    6
     convert-fields-kinds.ps
-    (is 5 convert-fields-kinds.ps μ-convert-fields t)
+    (is 6 convert-fields-kinds.ps μ-convert-fields t)
     convert-fields.Pre
 
-abbrev convert-fields-below : ℕ → In 5 convert-fields-kinds.ps
+abbrev convert-fields-below : ℕ → In 6 convert-fields-kinds.ps
 convert-fields-below t =
     and
-    5
+    6
     convert-fields-kinds.ps
-    (falls 5 convert-fields-kinds.ps _<_ μ-convert-fields t)
+    (falls 6 convert-fields-kinds.ps _<_ μ-convert-fields t)
     convert-fields.Pre
 
-abbrev convert-node-type-at : ℕ → In 5 convert-node-type-kinds.ps
+abbrev convert-node-type-at : ℕ → In 6 convert-node-type-kinds.ps
 convert-node-type-at t =
     and
-    5
+    6
     convert-node-type-kinds.ps
-    (is 5 convert-node-type-kinds.ps μ-convert-node-type t)
+    (is 6 convert-node-type-kinds.ps μ-convert-node-type t)
     convert-node-type.Pre
 
-abbrev convert-node-type-below : ℕ → In 5 convert-node-type-kinds.ps
+abbrev convert-node-type-below : ℕ → In 6 convert-node-type-kinds.ps
 convert-node-type-below t =
     and
-    5
+    6
     convert-node-type-kinds.ps
-    (falls 5 convert-node-type-kinds.ps _<_ μ-convert-node-type t)
+    (falls 6 convert-node-type-kinds.ps _<_ μ-convert-node-type t)
     convert-node-type.Pre
 
-abbrev convert-pointer-at : ℕ → In 5 convert-pointer-kinds.ps
+abbrev convert-pointer-at : ℕ → In 6 convert-pointer-kinds.ps
 convert-pointer-at t =
     and
-    5
+    6
     convert-pointer-kinds.ps
-    (is 5 convert-pointer-kinds.ps μ-convert-pointer t)
+    (is 6 convert-pointer-kinds.ps μ-convert-pointer t)
     convert-pointer.Pre
 
-abbrev convert-pointer-below : ℕ → In 5 convert-pointer-kinds.ps
+abbrev convert-pointer-below : ℕ → In 6 convert-pointer-kinds.ps
 convert-pointer-below t =
     and
-    5
+    6
     convert-pointer-kinds.ps
-    (falls 5 convert-pointer-kinds.ps _<_ μ-convert-pointer t)
+    (falls 6 convert-pointer-kinds.ps _<_ μ-convert-pointer t)
     convert-pointer.Pre
 
-abbrev convert-struct-at : ℕ → In 5 convert-struct-kinds.ps
+abbrev convert-struct-at : ℕ → In 6 convert-struct-kinds.ps
 convert-struct-at t =
     and
-    5
+    6
     convert-struct-kinds.ps
-    (is 5 convert-struct-kinds.ps μ-convert-struct t)
+    (is 6 convert-struct-kinds.ps μ-convert-struct t)
     convert-struct.Pre
 
-abbrev convert-struct-below : ℕ → In 5 convert-struct-kinds.ps
+abbrev convert-struct-below : ℕ → In 6 convert-struct-kinds.ps
 convert-struct-below t =
     and
-    5
+    6
     convert-struct-kinds.ps
-    (falls 5 convert-struct-kinds.ps _<_ μ-convert-struct t)
+    (falls 6 convert-struct-kinds.ps _<_ μ-convert-struct t)
     convert-struct.Pre
 
 abbrev convert-array-claims : ℕ → convert-array-lts.Claims
@@ -206,10 +202,10 @@ convert-array-convert-node-type-requires :
       settle-row-reads.Asked,
       settle-row-reads.Learnt,
     ) (convert-array-at t) convert-array.Post
-convert-array-convert-node-type-requires t c κs = (omega (arith, heads.bounds _ _ _ (c .before .before .before .before .before .before .before .before .before .pre .1 .0)), (heads.element-fine _ _ _ (c .before .before .before .before .before .before .before .before .before .pre .1 .0) (c .before .before .before .before .before .before .before .before .before .pre .1 .1 .0), c .before .before .before .before .before .before .before .before .before .pre .1 .1 .1))
+convert-array-convert-node-type-requires t c κs = (omega (arith, heads.bounds _ _ _ (c .before .before .before .before .before .before .before .before .before .before .pre .1 .0)), (heads.element-fine _ _ _ (c .before .before .before .before .before .before .before .before .before .before .pre .1 .0) (c .before .before .before .before .before .before .before .before .before .before .pre .1 .1 .0), c .before .before .before .before .before .before .before .before .before .before .pre .1 .1 .1))
 
 convert-array-settle-row-requires : (t : ℕ) → convert-array-lts.Need-settle-row-requires (convert-array-claims t) (convert-array-at t) convert-array.Post
-convert-array-settle-row-requires t c κs = (omega (arith, heads.bounds _ _ _ (c .before .before .before .before .before .before .before .before .before .before .before .before .before .before .before .before .before .before .before .pre .1 .0), c .before .before .before .before .before .before .before .before .before .before .before .before .before .before .before .before .before .before .before .pre .1 .1 .1 .long, c .before .before .before .before .before .before .before .before .before .convert-node-type .ensures .walked .walked .frame .long), (c .before .before .before .before .before .before .before .before .before .convert-node-type .ensures .walked .walked .grew .good .table, c .before .before .before .before .before .before .before .before .before .convert-node-type .ensures .walked .is))
+convert-array-settle-row-requires t c κs = (omega (arith, heads.bounds _ _ _ (c .before .before .before .before .before .before .before .before .before .before .before .before .before .before .before .before .before .before .before .before .before .pre .1 .0), c .before .before .before .before .before .before .before .before .before .before .before .before .before .before .before .before .before .before .before .before .before .pre .1 .1 .1 .long, c .before .before .before .before .before .before .before .before .before .before .convert-node-type .ensures .walked .walked .frame .long), ((c .before .before .before .before .before .before .before .before .before .before .convert-node-type .ensures .walked .walked .grew .good .table, c .before .before .before .before .before .before .before .before .before .before .convert-node-type .ensures .walked .is), c .before .before .before .before .before .before .before .before .before .before .convert-node-type .ensures .walked .walked .grew .good .indexed))
 
 convert-array-same-length : (t : ℕ) → convert-array-lts.Need-same-length (convert-array-claims t) (convert-array-at t) convert-array.Post
 convert-array-same-length t c = search needs
@@ -221,7 +217,7 @@ convert-array-same-length-3 : (t : ℕ) → convert-array-lts.Need-same-length-3
 convert-array-same-length-3 t c = search needs
 
 convert-array-returns : (t : ℕ) → convert-array-lts.Need-returns (convert-array-claims t) (convert-array-at t) convert-array.Post
-convert-array-returns t c = laws.converted-array _ _ _ _ _ (c .before .before .before .before .before .before .before .before .before .before .before .before .before .before .before .before .before .before .before .before .before .before .before .before .pre .1 .0) _ _ _ _ _ (c .before .before .before .before .before .before .before .before .before .before .before .before .before .before .before .before .before .before .before .before .before .before .before .before .pre .1 .1 .1) _ _ _ (c .before .before .before .before .before .before .before .before .before .before .before .before .before .before .convert-node-type .result) (c .before .before .before .before .before .before .before .before .before .before .before .before .before .before .before .before .before .before .before .before .before .before .before .before .pre .1 .1 .0) _ (c .before .before .before .before .before .before .before .before .before .before .before .before .before .before .before .before .before .before .word .ensures) (c .before .before .before .before .before .before .before .before .before .before .before .before .before .before .convert-node-type .ensures) _ _ _ (c .before .before .before .before .settle-row .ensures)
+convert-array-returns t c = laws.converted-array _ _ _ _ _ (c .before .before .before .before .before .before .before .before .before .before .before .before .before .before .before .before .before .before .before .before .before .before .before .before .before .before .pre .1 .0) _ _ _ _ _ (c .before .before .before .before .before .before .before .before .before .before .before .before .before .before .before .before .before .before .before .before .before .before .before .before .before .before .pre .1 .1 .1) _ _ _ (c .before .before .before .before .before .before .before .before .before .before .before .before .before .before .before .convert-node-type .result) (c .before .before .before .before .before .before .before .before .before .before .before .before .before .before .before .before .before .before .before .before .before .before .before .before .before .before .pre .1 .1 .0) _ (c .before .before .before .before .before .before .before .before .before .before .before .before .before .before .before .before .before .before .before .before .word .ensures) (c .before .before .before .before .before .before .before .before .before .before .before .before .before .before .before .convert-node-type .ensures) _ _ _ (c .before .before .before .before .settle-row .ensures)
 
 convert-fields-returns : (t : ℕ) → convert-fields-lts.Need-returns (convert-fields-claims t) (convert-fields-at t) convert-fields.Post
 convert-fields-returns t c = laws.fields-end _ _ _ _ _ _ (c .before .before .before .before .before .before .pre .1 .0) _ _ _ _ _ (c .before .before .before .before .before .before .pre .1 .1) (c .if1 .taken)
@@ -246,25 +242,25 @@ convert-fields-convert-node-type-requires :
       make-reads.Asked,
       make-reads.Learnt,
     ) (convert-fields-at t) convert-fields.Post
-convert-fields-convert-node-type-requires t c κs = (omega arith, (heads.type-fine _ _ _ _ (c .before .before .before .before .before .before .before .before .before .before .pre .1 .0) (c .before .before .before .before .if1 .left), c .before .before .before .before .before .before .before .before .before .before .pre .1 .1))
+convert-fields-convert-node-type-requires t c κs = (omega arith, (heads.type-fine _ _ _ _ (c .before .before .before .before .before .before .before .before .before .before .before .pre .1 .0) (c .before .before .before .before .before .if1 .left), c .before .before .before .before .before .before .before .before .before .before .before .pre .1 .1))
 
 convert-fields-convert-fields-requires : (t : ℕ) → convert-fields-lts.Need-convert-fields-requires (convert-fields-claims t) (convert-fields-at t) convert-fields.Post
-convert-fields-convert-fields-requires t c κs = (omega (arith, c .before .before .before .before .before .before .before .before .before .before .before .before .before .before .before .before .before .before .before .before .before .pre .0, c .before .before .before .before .before .before .before .before .before .before .before .before .before .before .field-head .ensures), (heads.rest-fine _ _ _ _ (c .before .before .before .before .before .before .before .before .before .before .before .before .before .before .before .before .before .before .before .before .before .pre .1 .0) (c .before .before .before .before .before .before .before .before .before .before .before .before .before .before .before .if1 .left) _ (c .before .before .before .before .before .before .before .before .before .before .before .before .before .before .field-head .ensures .next), heads.ready-later (c .before .before .before .before .before .before .before .before .before .before .before .before .before .before .before .before .before .before .before .before .before .pre .1 .1) (c .before .before .before .before .before .before .before .before .before .before .convert-node-type .ensures .walked .walked .grew) (c .before .before .before .before .before .before .before .before .before .before .convert-node-type .ensures .walked .walked .frame .long)))
+convert-fields-convert-fields-requires t c κs = (omega (arith, c .before .before .before .before .before .before .before .before .before .before .before .before .before .before .before .before .before .before .before .before .before .before .before .pre .0, c .before .before .before .before .before .before .before .before .before .before .before .before .before .before .before .before .field-head .ensures), (heads.rest-fine _ _ _ _ (c .before .before .before .before .before .before .before .before .before .before .before .before .before .before .before .before .before .before .before .before .before .before .before .pre .1 .0) (c .before .before .before .before .before .before .before .before .before .before .before .before .before .before .before .before .before .if1 .left) _ (c .before .before .before .before .before .before .before .before .before .before .before .before .before .before .before .before .field-head .ensures .next), heads.ready-later (c .before .before .before .before .before .before .before .before .before .before .before .before .before .before .before .before .before .before .before .before .before .before .before .pre .1 .1) (c .before .before .before .before .before .before .before .before .before .before .before .convert-node-type .ensures .walked .walked .grew) (c .before .before .before .before .before .before .before .before .before .before .before .convert-node-type .ensures .walked .walked .frame .long)))
 
 convert-fields-make-requires : (t : ℕ) → convert-fields-lts.Need-make-requires (convert-fields-claims t) (convert-fields-at t) convert-fields.Post
-convert-fields-make-requires t c κs = laws.cell-ok _ _ _ _ _ _ (c .before .before .before .before .before .before .before .before .before .before .before .before .before .before .before .before .before .before .before .before .before .before .before .before .before .before .before .before .before .before .pre .1 .0) _ _ _ _ _ (c .before .before .before .before .before .before .before .before .before .before .before .before .before .before .before .before .before .before .before .before .before .before .before .before .before .before .before .before .before .before .pre .1 .1) (c .before .before .before .before .before .before .before .before .before .before .before .before .before .before .before .before .before .before .before .before .before .before .before .before .if1 .left) _ (c .before .before .before .before .before .before .before .before .before .before .before .before .before .before .before .before .before .before .before .before .before .before .before .field-head .ensures) _ _ _ (c .before .before .before .before .before .before .before .before .before .before .before .before .before .before .before .before .before .before .before .convert-node-type .result) (c .before .before .before .before .before .before .before .before .before .before .before .before .before .before .before .before .before .before .before .convert-node-type .ensures) _ _ _ (c .before .before .before .before .before .before .before .before .convert-fields .result) (c .before .before .before .before .before .before .before .before .convert-fields .ensures)
+convert-fields-make-requires t c κs = (laws.cell-ok _ _ _ _ _ _ (c .before .before .before .before .before .before .before .before .before .before .before .before .before .before .before .before .before .before .before .before .before .before .before .before .before .before .before .before .before .before .before .before .before .pre .1 .0) _ _ _ _ _ (c .before .before .before .before .before .before .before .before .before .before .before .before .before .before .before .before .before .before .before .before .before .before .before .before .before .before .before .before .before .before .before .before .before .pre .1 .1) (c .before .before .before .before .before .before .before .before .before .before .before .before .before .before .before .before .before .before .before .before .before .before .before .before .before .before .before .if1 .left) _ (c .before .before .before .before .before .before .before .before .before .before .before .before .before .before .before .before .before .before .before .before .before .before .before .before .before .before .field-head .ensures) _ _ _ (c .before .before .before .before .before .before .before .before .before .before .before .before .before .before .before .before .before .before .before .before .before .convert-node-type .result) (c .before .before .before .before .before .before .before .before .before .before .before .before .before .before .before .before .before .before .before .before .before .convert-node-type .ensures) _ _ _ (c .before .before .before .before .before .before .before .before .before .convert-fields .result) (c .before .before .before .before .before .before .before .before .before .convert-fields .ensures), c .before .before .before .before .before .before .before .before .before .convert-fields .ensures .walked .grew .good .indexed)
 
 convert-fields-same-length : (t : ℕ) → convert-fields-lts.Need-same-length (convert-fields-claims t) (convert-fields-at t) convert-fields.Post
-convert-fields-same-length t c = search needs
+convert-fields-same-length t c = omega (arith, c .before .before .before .before .before .before .before .before .before .before .before .before .before .before .before .before .before .before .before .before .before .before .before .before .convert-node-type .kept .1 .1 .1 .1 .1 .0, c .before .before .before .before .before .before .before .before .before .before .before .before .convert-fields .kept .1 .1 .1 .1 .1 .1 .0)
 
 convert-fields-same-length-2 : (t : ℕ) → convert-fields-lts.Need-same-length-2 (convert-fields-claims t) (convert-fields-at t) convert-fields.Post
-convert-fields-same-length-2 t c = search needs
+convert-fields-same-length-2 t c = omega (arith, c .before .before .before .before .before .before .before .before .before .before .before .before .before .before .before .before .before .before .before .before .before .before .before .before .convert-node-type .kept .1 .1 .1 .1 .1 .1 .0, c .before .before .before .before .before .before .before .before .before .before .before .before .convert-fields .kept .1 .1 .1 .1 .1 .1 .1 .0)
 
 convert-fields-same-length-3 : (t : ℕ) → convert-fields-lts.Need-same-length-3 (convert-fields-claims t) (convert-fields-at t) convert-fields.Post
-convert-fields-same-length-3 t c = search needs
+convert-fields-same-length-3 t c = omega (arith, c .before .before .before .before .before .before .before .before .before .before .before .before .before .before .before .before .before .before .before .before .before .before .before .before .convert-node-type .kept .1 .1 .1 .1 .1 .1 .1 .0, c .before .before .before .before .before .before .before .before .before .before .before .before .convert-fields .kept .1 .1 .1 .1 .1 .1 .1 .1 .0, c .before .before .make .kept .0)
 
 convert-fields-returns-2 : (t : ℕ) → convert-fields-lts.Need-returns-2 (convert-fields-claims t) (convert-fields-at t) convert-fields.Post
-convert-fields-returns-2 t c = laws.fields-cell _ _ _ _ _ _ (c .before .before .before .before .before .before .before .before .before .before .before .before .before .before .before .before .before .before .before .before .before .before .before .before .before .before .before .before .before .before .before .before .before .pre .1 .0) _ _ _ _ _ (c .before .before .before .before .before .before .before .before .before .before .before .before .before .before .before .before .before .before .before .before .before .before .before .before .before .before .before .before .before .before .before .before .before .pre .1 .1) (c .before .before .before .before .before .before .before .before .before .before .before .before .before .before .before .before .before .before .before .before .before .before .before .before .before .before .before .if1 .left) _ (c .before .before .before .before .before .before .before .before .before .before .before .before .before .before .before .before .before .before .before .before .before .before .before .before .before .before .field-head .ensures) _ _ _ (c .before .before .before .before .before .before .before .before .before .before .before .before .before .before .before .before .before .before .before .before .before .before .convert-node-type .result) (c .before .before .before .before .before .before .before .before .before .before .before .before .before .before .before .before .before .before .before .before .before .before .convert-node-type .ensures) _ _ _ (c .before .before .before .before .before .before .before .before .before .before .before .convert-fields .result) (c .before .before .before .before .before .before .before .before .before .before .before .convert-fields .ensures) _ _ (c .before .before .make .ensures)
+convert-fields-returns-2 t c = laws.fields-cell _ _ _ _ _ _ (c .before .before .before .before .before .before .before .before .before .before .before .before .before .before .before .before .before .before .before .before .before .before .before .before .before .before .before .before .before .before .before .before .before .before .before .before .pre .1 .0) _ _ _ _ _ (c .before .before .before .before .before .before .before .before .before .before .before .before .before .before .before .before .before .before .before .before .before .before .before .before .before .before .before .before .before .before .before .before .before .before .before .before .pre .1 .1) (c .before .before .before .before .before .before .before .before .before .before .before .before .before .before .before .before .before .before .before .before .before .before .before .before .before .before .before .before .before .before .if1 .left) _ (c .before .before .before .before .before .before .before .before .before .before .before .before .before .before .before .before .before .before .before .before .before .before .before .before .before .before .before .before .before .field-head .ensures) _ _ _ (c .before .before .before .before .before .before .before .before .before .before .before .before .before .before .before .before .before .before .before .before .before .before .before .before .convert-node-type .result) (c .before .before .before .before .before .before .before .before .before .before .before .before .before .before .before .before .before .before .before .before .before .before .before .before .convert-node-type .ensures) _ _ _ (c .before .before .before .before .before .before .before .before .before .before .before .before .convert-fields .result) (c .before .before .before .before .before .before .before .before .before .before .before .before .convert-fields .ensures) _ _ (c .before .before .make .ensures)
 
 convert-node-type-type-kind-requires : (t : ℕ) → convert-node-type-lts.Need-type-kind-requires (convert-node-type-claims t) (convert-node-type-at t) convert-node-type.Post
 convert-node-type-type-kind-requires t c κs = c .before .before .before .before .before .pre .1 .0
@@ -293,7 +289,7 @@ convert-node-type-convert-pointer-requires :
       convert-struct-below t,
       convert-struct.Post,
     ) (convert-node-type-at t) convert-node-type.Post
-convert-node-type-convert-pointer-requires t c κs = (omega arith, (c .before .before .before .before .before .before .before .before .before .before .pre .1 .0, (sym (c .before .before .before .before .type-kind .ensures .is) ∙ c .before .before .before .match .keys3, c .before .before .before .before .before .before .before .before .before .before .pre .1 .1)))
+convert-node-type-convert-pointer-requires t c κs = (omega arith, (c .before .before .before .before .before .before .before .before .before .before .before .pre .1 .0, (sym (c .before .before .before .before .before .type-kind .ensures .is) ∙ c .before .before .before .before .match .keys3, c .before .before .before .before .before .before .before .before .before .before .before .pre .1 .1)))
 
 convert-node-type-convert-array-requires :
     (t : ℕ) → convert-node-type-lts.Need-convert-array-requires (
@@ -310,7 +306,7 @@ convert-node-type-convert-array-requires :
       convert-struct-below t,
       convert-struct.Post,
     ) (convert-node-type-at t) convert-node-type.Post
-convert-node-type-convert-array-requires t c κs = (omega arith, (c .before .before .before .before .before .before .before .before .before .before .pre .1 .0, (sym (c .before .before .before .before .type-kind .ensures .is) ∙ c .before .before .before .match .keys4, c .before .before .before .before .before .before .before .before .before .before .pre .1 .1)))
+convert-node-type-convert-array-requires t c κs = (omega arith, (c .before .before .before .before .before .before .before .before .before .before .before .pre .1 .0, (sym (c .before .before .before .before .before .type-kind .ensures .is) ∙ c .before .before .before .before .match .keys4, c .before .before .before .before .before .before .before .before .before .before .before .pre .1 .1)))
 
 convert-node-type-convert-struct-requires :
     (t : ℕ) → convert-node-type-lts.Need-convert-struct-requires (
@@ -327,7 +323,7 @@ convert-node-type-convert-struct-requires :
       convert-struct-below t,
       convert-struct.Post,
     ) (convert-node-type-at t) convert-node-type.Post
-convert-node-type-convert-struct-requires t c κs = (omega arith, (c .before .before .before .before .before .before .before .before .before .before .pre .1 .0, (heads.is-struct _ _ _ (c .before .before .before .before .before .before .before .before .before .before .pre .1 .0) _ (c .before .before .before .before .type-kind .ensures .is) (c .before .before .before .match .rest .0 .0 .0 .1) (c .before .before .before .match .rest .0 .0 .1) (c .before .before .before .match .rest .0 .1) (c .before .before .before .match .rest .1), c .before .before .before .before .before .before .before .before .before .before .pre .1 .1)))
+convert-node-type-convert-struct-requires t c κs = (omega arith, (c .before .before .before .before .before .before .before .before .before .before .before .pre .1 .0, (heads.is-struct _ _ _ (c .before .before .before .before .before .before .before .before .before .before .before .pre .1 .0) _ (c .before .before .before .before .before .type-kind .ensures .is) (c .before .before .before .before .match .rest .0 .0 .0 .1) (c .before .before .before .before .match .rest .0 .0 .1) (c .before .before .before .before .match .rest .0 .1) (c .before .before .before .before .match .rest .1), c .before .before .before .before .before .before .before .before .before .before .before .pre .1 .1)))
 
 convert-node-type-same-length : (t : ℕ) → convert-node-type-lts.Need-same-length (convert-node-type-claims t) (convert-node-type-at t) convert-node-type.Post
 convert-node-type-same-length t c = search needs
@@ -393,10 +389,10 @@ convert-pointer-convert-node-type-requires :
       settle-row-reads.Asked,
       settle-row-reads.Learnt,
     ) (convert-pointer-at t) convert-pointer.Post
-convert-pointer-convert-node-type-requires t c κs = (omega (arith, heads.bounds _ _ _ (c .before .before .before .before .before .before .before .before .pre .1 .0)), (heads.pointee-fine _ _ _ (c .before .before .before .before .before .before .before .before .pre .1 .0) (c .before .before .before .before .before .before .before .before .pre .1 .1 .0), c .before .before .before .before .before .before .before .before .pre .1 .1 .1))
+convert-pointer-convert-node-type-requires t c κs = (omega (arith, heads.bounds _ _ _ (c .before .before .before .before .before .before .before .before .before .pre .1 .0)), (heads.pointee-fine _ _ _ (c .before .before .before .before .before .before .before .before .before .pre .1 .0) (c .before .before .before .before .before .before .before .before .before .pre .1 .1 .0), c .before .before .before .before .before .before .before .before .before .pre .1 .1 .1))
 
 convert-pointer-settle-row-requires : (t : ℕ) → convert-pointer-lts.Need-settle-row-requires (convert-pointer-claims t) (convert-pointer-at t) convert-pointer.Post
-convert-pointer-settle-row-requires t c κs = (omega (arith, heads.bounds _ _ _ (c .before .before .before .before .before .before .before .before .before .before .before .before .before .before .before .before .before .before .pre .1 .0), c .before .before .before .before .before .before .before .before .before .before .before .before .before .before .before .before .before .before .pre .1 .1 .1 .long, c .before .before .before .before .before .before .before .before .before .convert-node-type .ensures .walked .walked .frame .long), (c .before .before .before .before .before .before .before .before .before .convert-node-type .ensures .walked .walked .grew .good .table, c .before .before .before .before .before .before .before .before .before .convert-node-type .ensures .walked .is))
+convert-pointer-settle-row-requires t c κs = (omega (arith, heads.bounds _ _ _ (c .before .before .before .before .before .before .before .before .before .before .before .before .before .before .before .before .before .before .before .before .pre .1 .0), c .before .before .before .before .before .before .before .before .before .before .before .before .before .before .before .before .before .before .before .before .pre .1 .1 .1 .long, c .before .before .before .before .before .before .before .before .before .before .convert-node-type .ensures .walked .walked .frame .long), ((c .before .before .before .before .before .before .before .before .before .before .convert-node-type .ensures .walked .walked .grew .good .table, c .before .before .before .before .before .before .before .before .before .before .convert-node-type .ensures .walked .is), c .before .before .before .before .before .before .before .before .before .before .convert-node-type .ensures .walked .walked .grew .good .indexed))
 
 convert-pointer-same-length : (t : ℕ) → convert-pointer-lts.Need-same-length (convert-pointer-claims t) (convert-pointer-at t) convert-pointer.Post
 convert-pointer-same-length t c = search needs
@@ -408,7 +404,7 @@ convert-pointer-same-length-3 : (t : ℕ) → convert-pointer-lts.Need-same-leng
 convert-pointer-same-length-3 t c = search needs
 
 convert-pointer-returns : (t : ℕ) → convert-pointer-lts.Need-returns (convert-pointer-claims t) (convert-pointer-at t) convert-pointer.Post
-convert-pointer-returns t c = laws.converted-pointer _ _ _ _ _ (c .before .before .before .before .before .before .before .before .before .before .before .before .before .before .before .before .before .before .before .before .before .before .before .pre .1 .0) _ _ _ _ _ (c .before .before .before .before .before .before .before .before .before .before .before .before .before .before .before .before .before .before .before .before .before .before .before .pre .1 .1 .1) _ _ _ (c .before .before .before .before .before .before .before .before .before .before .before .before .before .before .convert-node-type .result) (c .before .before .before .before .before .before .before .before .before .before .before .before .before .before .before .before .before .before .before .before .before .before .before .pre .1 .1 .0) (c .before .before .before .before .before .before .before .before .before .before .before .before .before .before .convert-node-type .ensures) _ _ _ (c .before .before .before .before .settle-row .ensures)
+convert-pointer-returns t c = laws.converted-pointer _ _ _ _ _ (c .before .before .before .before .before .before .before .before .before .before .before .before .before .before .before .before .before .before .before .before .before .before .before .before .before .pre .1 .0) _ _ _ _ _ (c .before .before .before .before .before .before .before .before .before .before .before .before .before .before .before .before .before .before .before .before .before .before .before .before .before .pre .1 .1 .1) _ _ _ (c .before .before .before .before .before .before .before .before .before .before .before .before .before .before .before .convert-node-type .result) (c .before .before .before .before .before .before .before .before .before .before .before .before .before .before .before .before .before .before .before .before .before .before .before .before .before .pre .1 .1 .0) (c .before .before .before .before .before .before .before .before .before .before .before .before .before .before .before .convert-node-type .ensures) _ _ _ (c .before .before .before .before .settle-row .ensures)
 
 convert-struct-length-at-requires : (t : ℕ) → convert-struct-lts.Need-length-at-requires (convert-struct-claims t) (convert-struct-at t) convert-struct.Post
 convert-struct-length-at-requires t c κs = omega (arith, heads.bounds _ _ _ (c .before .before .before .before .before .pre .1 .0))
@@ -423,10 +419,10 @@ convert-struct-sub-convert-fields : (t : ℕ) → convert-struct-lts.Need-sub-co
 convert-struct-sub-convert-fields t c = omega (arith, heads.bounds _ _ _ (c .before .before .before .before .before .before .pre .1 .0))
 
 convert-struct-convert-fields-requires : (t : ℕ) → convert-struct-lts.Need-convert-fields-requires (convert-struct-claims t) (convert-struct-at t) convert-struct.Post
-convert-struct-convert-fields-requires t c κs = (omega (arith, heads.bounds _ _ _ (c .before .before .before .before .before .before .before .before .before .pre .1 .0), c .before .before .before .length-at .ensures), (heads.fields-fine _ _ _ (c .before .before .before .before .before .before .before .before .before .pre .1 .0) (c .before .before .before .before .before .before .before .before .before .pre .1 .1 .0) _ (c .before .before .before .length-at .ensures), c .before .before .before .before .before .before .before .before .before .pre .1 .1 .1))
+convert-struct-convert-fields-requires t c κs = (omega (arith, heads.bounds _ _ _ (c .before .before .before .before .before .before .before .before .before .before .pre .1 .0), c .before .before .before .before .length-at .ensures), (heads.fields-fine _ _ _ (c .before .before .before .before .before .before .before .before .before .before .pre .1 .0) (c .before .before .before .before .before .before .before .before .before .before .pre .1 .1 .0) _ (c .before .before .before .before .length-at .ensures), c .before .before .before .before .before .before .before .before .before .before .pre .1 .1 .1))
 
 convert-struct-settle-row-requires : (t : ℕ) → convert-struct-lts.Need-settle-row-requires (convert-struct-claims t) (convert-struct-at t) convert-struct.Post
-convert-struct-settle-row-requires t c κs = (omega (arith, heads.bounds _ _ _ (c .before .before .before .before .before .before .before .before .before .before .before .before .before .before .before .before .before .before .before .pre .1 .0), c .before .before .before .before .before .before .before .before .before .before .before .before .before .before .before .before .before .before .before .pre .1 .1 .1 .long, c .before .before .before .before .before .before .before .before .before .convert-fields .ensures .walked .frame .long), (c .before .before .before .before .before .before .before .before .before .convert-fields .ensures .walked .grew .good .table, c .before .before .before .before .before .before .before .before .before .convert-fields .ensures .is))
+convert-struct-settle-row-requires t c κs = (omega (arith, heads.bounds _ _ _ (c .before .before .before .before .before .before .before .before .before .before .before .before .before .before .before .before .before .before .before .before .before .pre .1 .0), c .before .before .before .before .before .before .before .before .before .before .before .before .before .before .before .before .before .before .before .before .before .pre .1 .1 .1 .long, c .before .before .before .before .before .before .before .before .before .before .convert-fields .ensures .walked .frame .long), ((c .before .before .before .before .before .before .before .before .before .before .convert-fields .ensures .walked .grew .good .table, c .before .before .before .before .before .before .before .before .before .before .convert-fields .ensures .is), c .before .before .before .before .before .before .before .before .before .before .convert-fields .ensures .walked .grew .good .indexed))
 
 convert-struct-same-length : (t : ℕ) → convert-struct-lts.Need-same-length (convert-struct-claims t) (convert-struct-at t) convert-struct.Post
 convert-struct-same-length t c = search needs
@@ -438,7 +434,7 @@ convert-struct-same-length-3 : (t : ℕ) → convert-struct-lts.Need-same-length
 convert-struct-same-length-3 t c = search needs
 
 convert-struct-returns : (t : ℕ) → convert-struct-lts.Need-returns (convert-struct-claims t) (convert-struct-at t) convert-struct.Post
-convert-struct-returns t c = laws.converted-struct _ _ _ _ _ (c .before .before .before .before .before .before .before .before .before .before .before .before .before .before .before .before .before .before .before .before .before .before .before .before .pre .1 .0) _ _ _ _ _ (c .before .before .before .before .before .before .before .before .before .before .before .before .before .before .before .before .before .before .before .before .before .before .before .before .pre .1 .1 .1) _ _ _ (c .before .before .before .before .before .before .before .before .before .before .before .before .before .before .convert-fields .result) (c .before .before .before .before .before .before .before .before .before .before .before .before .before .before .before .before .before .before .before .before .before .before .before .before .pre .1 .1 .0) _ (c .before .before .before .before .before .before .before .before .before .before .before .before .before .before .before .before .before .before .length-at .ensures) (c .before .before .before .before .before .before .before .before .before .before .before .before .before .before .convert-fields .ensures) _ _ _ (c .before .before .before .before .settle-row .ensures)
+convert-struct-returns t c = laws.converted-struct _ _ _ _ _ (c .before .before .before .before .before .before .before .before .before .before .before .before .before .before .before .before .before .before .before .before .before .before .before .before .before .before .pre .1 .0) _ _ _ _ _ (c .before .before .before .before .before .before .before .before .before .before .before .before .before .before .before .before .before .before .before .before .before .before .before .before .before .before .pre .1 .1 .1) _ _ _ (c .before .before .before .before .before .before .before .before .before .before .before .before .before .before .before .convert-fields .result) (c .before .before .before .before .before .before .before .before .before .before .before .before .before .before .before .before .before .before .before .before .before .before .before .before .before .before .pre .1 .1 .0) _ (c .before .before .before .before .before .before .before .before .before .before .before .before .before .before .before .before .before .before .before .before .length-at .ensures) (c .before .before .before .before .before .before .before .before .before .before .before .before .before .before .before .convert-fields .ensures) _ _ _ (c .before .before .before .before .settle-row .ensures)
 
 pub +convert-array+convert-fields+convert-node-type+convert-pointer+convert-struct-spec :
     {M : Type 1} → statement M

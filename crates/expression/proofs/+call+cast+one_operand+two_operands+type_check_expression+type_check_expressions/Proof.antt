@@ -43,86 +43,86 @@ use Rattle.state.proofs.put_slot.Reads as put-slot-reads
 use Rattle.expression.proofs.+call+cast+one_operand+two_operands+type_check_expression+type_check_expressions.{statement}
 use Rattle.expression.proofs.+call+cast+one_operand+two_operands+type_check_expression+type_check_expressions.Tie.{close}
 
-abbrev μ-call : Measures 5 call-kinds.ps ℕ
+abbrev μ-call : Measures 6 call-kinds.ps ℕ
 μ-call κs a = 4 * a .1 .1 .1 .1 .0 + 1
 
-abbrev μ-cast : Measures 5 cast-kinds.ps ℕ
+abbrev μ-cast : Measures 6 cast-kinds.ps ℕ
 μ-cast κs a = 4 * a .1 .1 .1 .1 .0 + 1
 
-abbrev μ-one-operand : Measures 5 one-operand-kinds.ps ℕ
+abbrev μ-one-operand : Measures 6 one-operand-kinds.ps ℕ
 μ-one-operand κs a = 4 * a .1 .1 .1 .1 .0 + 1
 
-abbrev μ-two-operands : Measures 5 two-operands-kinds.ps ℕ
+abbrev μ-two-operands : Measures 6 two-operands-kinds.ps ℕ
 μ-two-operands κs a = 4 * a .1 .1 .1 .1 .0 + 1
 
-abbrev μ-type-check-expression : Measures 5 type-check-expression-kinds.ps ℕ
+abbrev μ-type-check-expression : Measures 6 type-check-expression-kinds.ps ℕ
 μ-type-check-expression κs a = 4 * a .1 .1 .1 .1 .0 + 2
 
-abbrev μ-type-check-expressions : Measures 5 type-check-expressions-kinds.ps ℕ
+abbrev μ-type-check-expressions : Measures 6 type-check-expressions-kinds.ps ℕ
 μ-type-check-expressions κs a = 4 * a .1 .1 .1 .1 .1 .0 + 3
 
-abbrev call-at : ℕ → In 5 call-kinds.ps
-call-at t = and 5 call-kinds.ps (is 5 call-kinds.ps μ-call t) call.Pre
+abbrev call-at : ℕ → In 6 call-kinds.ps
+call-at t = and 6 call-kinds.ps (is 6 call-kinds.ps μ-call t) call.Pre
 
-abbrev call-below : ℕ → In 5 call-kinds.ps
-call-below t = and 5 call-kinds.ps (falls 5 call-kinds.ps _<_ μ-call t) call.Pre
+abbrev call-below : ℕ → In 6 call-kinds.ps
+call-below t = and 6 call-kinds.ps (falls 6 call-kinds.ps _<_ μ-call t) call.Pre
 
-abbrev cast-at : ℕ → In 5 cast-kinds.ps
-cast-at t = and 5 cast-kinds.ps (is 5 cast-kinds.ps μ-cast t) cast.Pre
+abbrev cast-at : ℕ → In 6 cast-kinds.ps
+cast-at t = and 6 cast-kinds.ps (is 6 cast-kinds.ps μ-cast t) cast.Pre
 
-abbrev cast-below : ℕ → In 5 cast-kinds.ps
-cast-below t = and 5 cast-kinds.ps (falls 5 cast-kinds.ps _<_ μ-cast t) cast.Pre
+abbrev cast-below : ℕ → In 6 cast-kinds.ps
+cast-below t = and 6 cast-kinds.ps (falls 6 cast-kinds.ps _<_ μ-cast t) cast.Pre
 
-abbrev one-operand-at : ℕ → In 5 one-operand-kinds.ps
+abbrev one-operand-at : ℕ → In 6 one-operand-kinds.ps
 one-operand-at t =
-    and 5 one-operand-kinds.ps (is 5 one-operand-kinds.ps μ-one-operand t) one-operand.Pre
+    and 6 one-operand-kinds.ps (is 6 one-operand-kinds.ps μ-one-operand t) one-operand.Pre
 
-abbrev one-operand-below : ℕ → In 5 one-operand-kinds.ps
+abbrev one-operand-below : ℕ → In 6 one-operand-kinds.ps
 one-operand-below t =
-    and 5 one-operand-kinds.ps (falls 5 one-operand-kinds.ps _<_ μ-one-operand t) one-operand.Pre
+    and 6 one-operand-kinds.ps (falls 6 one-operand-kinds.ps _<_ μ-one-operand t) one-operand.Pre
 
-abbrev two-operands-at : ℕ → In 5 two-operands-kinds.ps
+abbrev two-operands-at : ℕ → In 6 two-operands-kinds.ps
 two-operands-at t =
-    and 5 two-operands-kinds.ps (is 5 two-operands-kinds.ps μ-two-operands t) two-operands.Pre
+    and 6 two-operands-kinds.ps (is 6 two-operands-kinds.ps μ-two-operands t) two-operands.Pre
 
-abbrev two-operands-below : ℕ → In 5 two-operands-kinds.ps
+abbrev two-operands-below : ℕ → In 6 two-operands-kinds.ps
 two-operands-below t =
     and
-    5
+    6
     two-operands-kinds.ps
-    (falls 5 two-operands-kinds.ps _<_ μ-two-operands t)
+    (falls 6 two-operands-kinds.ps _<_ μ-two-operands t)
     two-operands.Pre
 
-abbrev type-check-expression-at : ℕ → In 5 type-check-expression-kinds.ps
+abbrev type-check-expression-at : ℕ → In 6 type-check-expression-kinds.ps
 type-check-expression-at t =
     and
-    5
+    6
     type-check-expression-kinds.ps
-    (is 5 type-check-expression-kinds.ps μ-type-check-expression t)
+    (is 6 type-check-expression-kinds.ps μ-type-check-expression t)
     type-check-expression.Pre
 
-abbrev type-check-expression-below : ℕ → In 5 type-check-expression-kinds.ps
+abbrev type-check-expression-below : ℕ → In 6 type-check-expression-kinds.ps
 type-check-expression-below t =
     and
-    5
+    6
     type-check-expression-kinds.ps
-    (falls 5 type-check-expression-kinds.ps _<_ μ-type-check-expression t)
+    (falls 6 type-check-expression-kinds.ps _<_ μ-type-check-expression t)
     type-check-expression.Pre
 
-abbrev type-check-expressions-at : ℕ → In 5 type-check-expressions-kinds.ps
+abbrev type-check-expressions-at : ℕ → In 6 type-check-expressions-kinds.ps
 type-check-expressions-at t =
     and
-    5
+    6
     type-check-expressions-kinds.ps
-    (is 5 type-check-expressions-kinds.ps μ-type-check-expressions t)
+    (is 6 type-check-expressions-kinds.ps μ-type-check-expressions t)
     type-check-expressions.Pre
 
-abbrev type-check-expressions-below : ℕ → In 5 type-check-expressions-kinds.ps
+abbrev type-check-expressions-below : ℕ → In 6 type-check-expressions-kinds.ps
 type-check-expressions-below t =
     and
-    5
+    6
     type-check-expressions-kinds.ps
-    (falls 5 type-check-expressions-kinds.ps _<_ μ-type-check-expressions t)
+    (falls 6 type-check-expressions-kinds.ps _<_ μ-type-check-expressions t)
     type-check-expressions.Pre
 
 abbrev call-claims : ℕ → call-lts.Claims
@@ -208,40 +208,40 @@ call-sub-inner : (t : ℕ) → call-lts.Need-sub-inner (call-claims t) (call-at 
 call-sub-inner t c = omega (arith, heads.deep (c .before .before .before .before .before .pre .1 .0 .0))
 
 call-type-check-expression-requires : (t : ℕ) → call-lts.Need-type-check-expression-requires (call-claims t) (call-at t) call.Post
-call-type-check-expression-requires t c κs = (omega (arith, c .before .before .before .before .before .before .before .before .pre .0, heads.deep (c .before .before .before .before .before .before .before .before .pre .1 .0 .0)), (heads.target-fine (c .before .before .before .before .before .before .before .before .pre .1 .0 .0) (c .before .before .before .before .before .before .before .before .pre .1 .0 .1), c .before .before .before .before .before .before .before .before .pre .1 .1))
+call-type-check-expression-requires t c κs = (omega (arith, c .before .before .before .before .before .before .before .before .before .pre .0, heads.deep (c .before .before .before .before .before .before .before .before .before .pre .1 .0 .0)), (heads.target-fine (c .before .before .before .before .before .before .before .before .before .pre .1 .0 .0) (c .before .before .before .before .before .before .before .before .before .pre .1 .0 .1), c .before .before .before .before .before .before .before .before .before .pre .1 .1))
 
 call-length-at-requires : (t : ℕ) → call-lts.Need-length-at-requires (call-claims t) (call-at t) call.Post
-call-length-at-requires t c κs = omega (arith, heads.slot-room (heads.target-fine (c .before .before .before .before .before .before .before .before .before .before .before .before .before .before .before .before .pre .1 .0 .0) (c .before .before .before .before .before .before .before .before .before .before .before .before .before .before .before .before .pre .1 .0 .1)))
+call-length-at-requires t c κs = omega (arith, heads.slot-room (heads.target-fine (c .before .before .before .before .before .before .before .before .before .before .before .before .before .before .before .before .before .pre .1 .0 .0) (c .before .before .before .before .before .before .before .before .before .before .before .before .before .before .before .before .before .pre .1 .0 .1)))
 
 call-add-from : (t : ℕ) → call-lts.Need-add-from (call-claims t) (call-at t) call.Post
-call-add-from t c = omega (arith, heads.stop-room (heads.target-fine (c .before .before .before .before .before .before .before .before .before .before .before .before .before .before .before .before .before .pre .1 .0 .0) (c .before .before .before .before .before .before .before .before .before .before .before .before .before .before .before .before .before .pre .1 .0 .1)), heads.few (c .before .before .before .before .before .before .before .before .before .before .before .before .before .before .before .before .before .pre .1 .0 .0), c .length-at .ensures .is)
+call-add-from t c = omega (arith, heads.stop-room (heads.target-fine (c .before .before .before .before .before .before .before .before .before .before .before .before .before .before .before .before .before .before .pre .1 .0 .0) (c .before .before .before .before .before .before .before .before .before .before .before .before .before .before .before .before .before .before .pre .1 .0 .1)), heads.few (c .before .before .before .before .before .before .before .before .before .before .before .before .before .before .before .before .before .before .pre .1 .0 .0), c .length-at .ensures .is)
 
 call-length-at-requires-2 : (t : ℕ) → call-lts.Need-length-at-requires-2 (call-claims t) (call-at t) call.Post
-call-length-at-requires-2 t c κs = omega (arith, heads.slot-room (c .before .before .before .before .before .before .before .before .before .before .before .before .before .before .before .before .before .pre .1 .0 .0))
+call-length-at-requires-2 t c κs = omega (arith, heads.slot-room (c .before .before .before .before .before .before .before .before .before .before .before .before .before .before .before .before .before .before .pre .1 .0 .0))
 
 call-add-stop : (t : ℕ) → call-lts.Need-add-stop (call-claims t) (call-at t) call.Post
-call-add-stop t c = omega (arith, heads.stop-room (c .before .before .before .before .before .before .before .before .before .before .before .before .before .before .before .before .before .before .pre .1 .0 .0), heads.few (c .before .before .before .before .before .before .before .before .before .before .before .before .before .before .before .before .before .before .pre .1 .0 .0), c .length-at2 .ensures .is)
+call-add-stop t c = omega (arith, heads.stop-room (c .before .before .before .before .before .before .before .before .before .before .before .before .before .before .before .before .before .before .before .pre .1 .0 .0), heads.few (c .before .before .before .before .before .before .before .before .before .before .before .before .before .before .before .before .before .before .before .pre .1 .0 .0), c .length-at2 .ensures .is)
 
 call-type-check-expressions-requires : (t : ℕ) → call-lts.Need-type-check-expressions-requires (call-claims t) (call-at t) call.Post
-call-type-check-expressions-requires t c κs = (omega (arith, c .before .before .before .before .before .before .before .before .before .before .before .before .before .before .before .before .before .before .before .before .before .pre .0, heads.deep (c .before .before .before .before .before .before .before .before .before .before .before .before .before .before .before .before .before .before .before .before .before .pre .1 .0 .0)), (heads.arguments-fine (c .before .before .before .before .before .before .before .before .before .before .before .before .before .before .before .before .before .before .before .before .before .pre .1 .0 .0) (c .before .before .before .before .before .before .before .before .before .before .before .before .before .before .before .before .before .before .before .before .before .pre .1 .0 .1) _ _ (heads.stops-at _ _ _ (c .before .before .before .before .length-at .ensures)) (heads.stops-at _ _ _ (c .before .before .before .length-at2 .ensures)), laws.ready-later (c .before .before .before .before .before .before .before .before .before .before .before .before .before .before .before .before .before .before .before .before .before .pre .1 .1) (c .before .before .before .before .before .before .before .before .before .before .before .before .type-check-expression .ensures .walked .walked .grew) (c .before .before .before .before .before .before .before .before .before .before .before .before .type-check-expression .ensures .walked .walked .frame .long)))
+call-type-check-expressions-requires t c κs = (omega (arith, c .before .before .before .before .before .before .before .before .before .before .before .before .before .before .before .before .before .before .before .before .before .before .before .pre .0, heads.deep (c .before .before .before .before .before .before .before .before .before .before .before .before .before .before .before .before .before .before .before .before .before .before .before .pre .1 .0 .0)), (heads.arguments-fine (c .before .before .before .before .before .before .before .before .before .before .before .before .before .before .before .before .before .before .before .before .before .before .before .pre .1 .0 .0) (c .before .before .before .before .before .before .before .before .before .before .before .before .before .before .before .before .before .before .before .before .before .before .before .pre .1 .0 .1) _ _ (heads.stops-at _ _ _ (c .before .before .before .before .before .length-at .ensures)) (heads.stops-at _ _ _ (c .before .before .before .before .length-at2 .ensures)), laws.ready-later (c .before .before .before .before .before .before .before .before .before .before .before .before .before .before .before .before .before .before .before .before .before .before .before .pre .1 .1) (c .before .before .before .before .before .before .before .before .before .before .before .before .before .type-check-expression .ensures .walked .walked .grew) (c .before .before .before .before .before .before .before .before .before .before .before .before .before .type-check-expression .ensures .walked .walked .frame .long)))
 
 call-call-result-requires : (t : ℕ) → call-lts.Need-call-result-requires (call-claims t) (call-at t) call.Post
-call-call-result-requires t c κs = (omega (arith, heads.slot-room (c .before .before .before .before .before .before .before .before .before .before .before .before .before .before .before .before .before .before .before .before .before .before .before .before .before .before .before .before .before .before .before .pre .1 .0 .0)), c .before .before .before .before .before .before .before .before .before .type-check-expressions .ensures .filled, laws.one-type (c .before .before .before .before .before .before .before .before .before .type-check-expressions .ensures .walked .grew .good) (laws.type-later (c .before .before .before .before .before .before .before .before .before .type-check-expressions .ensures .walked .grew) (c .before .before .before .before .before .before .before .before .before .before .before .before .before .before .before .before .before .before .before .before .before .before .type-check-expression .ensures .walked .is)))
+call-call-result-requires t c κs = (omega (arith, heads.slot-room (c .before .before .before .before .before .before .before .before .before .before .before .before .before .before .before .before .before .before .before .before .before .before .before .before .before .before .before .before .before .before .before .before .before .pre .1 .0 .0)), c .before .before .before .before .before .before .before .before .before .type-check-expressions .ensures .filled, laws.one-type (c .before .before .before .before .before .before .before .before .before .type-check-expressions .ensures .walked .grew .good) (laws.type-later (c .before .before .before .before .before .before .before .before .before .type-check-expressions .ensures .walked .grew) (c .before .before .before .before .before .before .before .before .before .before .before .before .before .before .before .before .before .before .before .before .before .before .before .type-check-expression .ensures .walked .is)))
 
 call-put-slot-requires : (t : ℕ) → call-lts.Need-put-slot-requires (call-claims t) (call-at t) call.Post
-call-put-slot-requires t c κs = omega (arith, heads.slot-room (c .before .before .before .before .before .before .before .before .before .before .before .before .before .before .before .before .before .before .before .before .before .before .before .before .before .before .before .before .before .before .before .before .before .before .before .pre .1 .0 .0), (c .before .before .before .before .before .before .before .before .before .before .before .before .before .before .before .before .before .before .before .before .before .before .before .before .before .before .before .before .before .before .before .before .before .before .before .pre .1 .1) .long, c .before .before .before .before .before .before .before .before .before .before .before .before .before .before .before .before .before .before .before .before .before .before .before .before .before .before .type-check-expression .ensures .walked .walked .frame .long, c .before .before .before .before .before .before .before .before .before .before .before .before .before .type-check-expressions .ensures .walked .frame .long)
+call-put-slot-requires t c κs = omega (arith, heads.slot-room (c .before .before .before .before .before .before .before .before .before .before .before .before .before .before .before .before .before .before .before .before .before .before .before .before .before .before .before .before .before .before .before .before .before .before .before .before .before .pre .1 .0 .0), (c .before .before .before .before .before .before .before .before .before .before .before .before .before .before .before .before .before .before .before .before .before .before .before .before .before .before .before .before .before .before .before .before .before .before .before .before .before .pre .1 .1) .long, c .before .before .before .before .before .before .before .before .before .before .before .before .before .before .before .before .before .before .before .before .before .before .before .before .before .before .before .type-check-expression .ensures .walked .walked .frame .long, c .before .before .before .before .before .before .before .before .before .before .before .before .before .type-check-expressions .ensures .walked .frame .long)
 
 call-same-length : (t : ℕ) → call-lts.Need-same-length (call-claims t) (call-at t) call.Post
-call-same-length t c = omega (arith, c .before .before .before .before .before .before .before .before .before .before .before .before .before .before .before .before .before .before .before .before .before .before .before .before .before .before .before .before .before .type-check-expression .kept .1 .1 .1 .1 .1 .0, c .before .before .before .before .before .before .before .before .before .before .before .before .before .before .before .before .type-check-expressions .kept .1 .1 .1 .1 .1 .1 .0, c .before .before .put-slot .kept .0)
+call-same-length t c = omega (arith, c .before .before .before .before .before .before .before .before .before .before .before .before .before .before .before .before .before .before .before .before .before .before .before .before .before .before .before .before .before .before .type-check-expression .kept .1 .1 .1 .1 .1 .0, c .before .before .before .before .before .before .before .before .before .before .before .before .before .before .before .before .type-check-expressions .kept .1 .1 .1 .1 .1 .1 .0, c .before .before .put-slot .kept .0)
 
 call-same-length-2 : (t : ℕ) → call-lts.Need-same-length-2 (call-claims t) (call-at t) call.Post
-call-same-length-2 t c = omega (arith, c .before .before .before .before .before .before .before .before .before .before .before .before .before .before .before .before .before .before .before .before .before .before .before .before .before .before .before .before .before .type-check-expression .kept .1 .1 .1 .1 .1 .1 .0, c .before .before .before .before .before .before .before .before .before .before .before .before .before .before .before .before .type-check-expressions .kept .1 .1 .1 .1 .1 .1 .1 .0, c .before .before .before .before .before .before .call-result .kept .1 .1 .1 .1 .1 .1 .0)
+call-same-length-2 t c = omega (arith, c .before .before .before .before .before .before .before .before .before .before .before .before .before .before .before .before .before .before .before .before .before .before .before .before .before .before .before .before .before .before .type-check-expression .kept .1 .1 .1 .1 .1 .1 .0, c .before .before .before .before .before .before .before .before .before .before .before .before .before .before .before .before .type-check-expressions .kept .1 .1 .1 .1 .1 .1 .1 .0, c .before .before .before .before .before .before .call-result .kept .1 .1 .1 .1 .1 .1 .0)
 
 call-same-length-3 : (t : ℕ) → call-lts.Need-same-length-3 (call-claims t) (call-at t) call.Post
-call-same-length-3 t c = omega (arith, c .before .before .before .before .before .before .before .before .before .before .before .before .before .before .before .before .before .before .before .before .before .before .before .before .before .before .before .before .before .type-check-expression .kept .1 .1 .1 .1 .1 .1 .1 .0, c .before .before .before .before .before .before .before .before .before .before .before .before .before .before .before .before .type-check-expressions .kept .1 .1 .1 .1 .1 .1 .1 .1 .0)
+call-same-length-3 t c = omega (arith, c .before .before .before .before .before .before .before .before .before .before .before .before .before .before .before .before .before .before .before .before .before .before .before .before .before .before .before .before .before .before .type-check-expression .kept .1 .1 .1 .1 .1 .1 .1 .0, c .before .before .before .before .before .before .before .before .before .before .before .before .before .before .before .before .type-check-expressions .kept .1 .1 .1 .1 .1 .1 .1 .1 .0)
 
 call-returns : (t : ℕ) → call-lts.Need-returns (call-claims t) (call-at t) call.Post
-call-returns t c = lists.call-carried (c .before .before .before .before .before .before .before .before .before .before .before .before .before .before .before .before .before .before .before .before .before .before .before .before .before .before .before .before .before .before .before .before .before .before .before .before .before .before .pre .1 .0 .0) (c .before .before .before .before .before .before .before .before .before .before .before .before .before .before .before .before .before .before .before .before .before .before .before .before .before .before .before .before .before .before .before .before .before .before .before .before .before .before .pre .1 .0 .1) (c .before .before .before .before .before .before .before .before .before .before .before .before .before .before .before .before .before .before .before .before .before .before .before .before .before .before .before .before .before .before .before .before .before .before .before .before .before .before .pre .1 .1) (c .before .before .before .before .before .before .before .before .before .before .before .before .before .before .before .before .before .before .before .before .before .before .before .before .before .before .before .before .before .type-check-expression .ensures) _ _ (heads.stops-at _ _ _ (c .before .before .before .before .before .before .before .before .before .before .before .before .before .before .before .before .before .before .before .before .before .length-at .ensures)) (heads.stops-at _ _ _ (c .before .before .before .before .before .before .before .before .before .before .before .before .before .before .before .before .before .before .before .before .length-at2 .ensures)) (c .before .before .before .before .before .before .before .before .before .before .before .before .before .before .before .before .type-check-expressions .ensures) _ (c .before .before .before .before .before .before .call-result .ensures) _ (c .before .before .put-slot .ensures)
+call-returns t c = lists.call-carried (c .before .before .before .before .before .before .before .before .before .before .before .before .before .before .before .before .before .before .before .before .before .before .before .before .before .before .before .before .before .before .before .before .before .before .before .before .before .before .before .before .pre .1 .0 .0) (c .before .before .before .before .before .before .before .before .before .before .before .before .before .before .before .before .before .before .before .before .before .before .before .before .before .before .before .before .before .before .before .before .before .before .before .before .before .before .before .before .pre .1 .0 .1) (c .before .before .before .before .before .before .before .before .before .before .before .before .before .before .before .before .before .before .before .before .before .before .before .before .before .before .before .before .before .before .before .before .before .before .before .before .before .before .before .before .pre .1 .1) (c .before .before .before .before .before .before .before .before .before .before .before .before .before .before .before .before .before .before .before .before .before .before .before .before .before .before .before .before .before .before .type-check-expression .ensures) _ _ (heads.stops-at _ _ _ (c .before .before .before .before .before .before .before .before .before .before .before .before .before .before .before .before .before .before .before .before .before .before .length-at .ensures)) (heads.stops-at _ _ _ (c .before .before .before .before .before .before .before .before .before .before .before .before .before .before .before .before .before .before .before .before .before .length-at2 .ensures)) (c .before .before .before .before .before .before .before .before .before .before .before .before .before .before .before .before .type-check-expressions .ensures) _ (c .before .before .before .before .before .before .call-result .ensures) _ (c .before .before .put-slot .ensures)
 
 cast-add-first : (t : ℕ) → cast-lts.Need-add-first (cast-claims t) (cast-at t) cast.Post
 cast-add-first t c = omega (arith, heads.slot-room (c .before .before .before .before .before .pre .1 .0 .0), heads.few (c .before .before .before .before .before .pre .1 .0 .0))
@@ -250,34 +250,34 @@ cast-sub-inner : (t : ℕ) → cast-lts.Need-sub-inner (cast-claims t) (cast-at 
 cast-sub-inner t c = omega (arith, heads.deep (c .before .before .before .before .before .pre .1 .0 .0))
 
 cast-type-check-expression-requires : (t : ℕ) → cast-lts.Need-type-check-expression-requires (cast-claims t) (cast-at t) cast.Post
-cast-type-check-expression-requires t c κs = (omega (arith, c .before .before .before .before .before .before .before .before .pre .0, heads.deep (c .before .before .before .before .before .before .before .before .pre .1 .0 .0)), (heads.value-fine (c .before .before .before .before .before .before .before .before .pre .1 .0 .0) (c .before .before .before .before .before .before .before .before .pre .1 .0 .1), c .before .before .before .before .before .before .before .before .pre .1 .1))
+cast-type-check-expression-requires t c κs = (omega (arith, c .before .before .before .before .before .before .before .before .before .pre .0, heads.deep (c .before .before .before .before .before .before .before .before .before .pre .1 .0 .0)), (heads.value-fine (c .before .before .before .before .before .before .before .before .before .pre .1 .0 .0) (c .before .before .before .before .before .before .before .before .before .pre .1 .0 .1), c .before .before .before .before .before .before .before .before .before .pre .1 .1))
 
 cast-length-at-requires : (t : ℕ) → cast-lts.Need-length-at-requires (cast-claims t) (cast-at t) cast.Post
-cast-length-at-requires t c κs = omega (arith, heads.slot-room (heads.value-fine (c .before .before .before .before .before .before .before .before .before .before .before .before .before .before .before .before .pre .1 .0 .0) (c .before .before .before .before .before .before .before .before .before .before .before .before .before .before .before .before .pre .1 .0 .1)))
+cast-length-at-requires t c κs = omega (arith, heads.slot-room (heads.value-fine (c .before .before .before .before .before .before .before .before .before .before .before .before .before .before .before .before .before .pre .1 .0 .0) (c .before .before .before .before .before .before .before .before .before .before .before .before .before .before .before .before .before .pre .1 .0 .1)))
 
 cast-add-second : (t : ℕ) → cast-lts.Need-add-second (cast-claims t) (cast-at t) cast.Post
-cast-add-second t c = omega (arith, heads.stop-room (heads.value-fine (c .before .before .before .before .before .before .before .before .before .before .before .before .before .before .before .before .before .pre .1 .0 .0) (c .before .before .before .before .before .before .before .before .before .before .before .before .before .before .before .before .before .pre .1 .0 .1)), heads.few (c .before .before .before .before .before .before .before .before .before .before .before .before .before .before .before .before .before .pre .1 .0 .0), c .length-at .ensures .is)
+cast-add-second t c = omega (arith, heads.stop-room (heads.value-fine (c .before .before .before .before .before .before .before .before .before .before .before .before .before .before .before .before .before .before .pre .1 .0 .0) (c .before .before .before .before .before .before .before .before .before .before .before .before .before .before .before .before .before .before .pre .1 .0 .1)), heads.few (c .before .before .before .before .before .before .before .before .before .before .before .before .before .before .before .before .before .before .pre .1 .0 .0), c .length-at .ensures .is)
 
 cast-convert-node-type-requires : (t : ℕ) → cast-lts.Need-convert-node-type-requires (cast-claims t) (cast-at t) cast.Post
-cast-convert-node-type-requires t c κs = (heads.cast-type-fine (c .before .before .before .before .before .before .before .before .before .before .before .before .before .before .before .before .before .before .before .before .pre .1 .0 .0) (c .before .before .before .before .before .before .before .before .before .before .before .before .before .before .before .before .before .before .before .before .pre .1 .0 .1) _ (heads.stops-at _ _ _ (c .before .before .before .length-at .ensures)), laws.ready-later (c .before .before .before .before .before .before .before .before .before .before .before .before .before .before .before .before .before .before .before .before .pre .1 .1) (c .before .before .before .before .before .before .before .before .before .before .before .type-check-expression .ensures .walked .walked .grew) (c .before .before .before .before .before .before .before .before .before .before .before .type-check-expression .ensures .walked .walked .frame .long))
+cast-convert-node-type-requires t c κs = (heads.cast-type-fine (c .before .before .before .before .before .before .before .before .before .before .before .before .before .before .before .before .before .before .before .before .before .before .pre .1 .0 .0) (c .before .before .before .before .before .before .before .before .before .before .before .before .before .before .before .before .before .before .before .before .before .before .pre .1 .0 .1) _ (heads.stops-at _ _ _ (c .before .before .before .before .length-at .ensures)), laws.ready-later (c .before .before .before .before .before .before .before .before .before .before .before .before .before .before .before .before .before .before .before .before .before .before .pre .1 .1) (c .before .before .before .before .before .before .before .before .before .before .before .before .type-check-expression .ensures .walked .walked .grew) (c .before .before .before .before .before .before .before .before .before .before .before .before .type-check-expression .ensures .walked .walked .frame .long))
 
 cast-cast-requires : (t : ℕ) → cast-lts.Need-cast-requires (cast-claims t) (cast-at t) cast.Post
-cast-cast-requires t c κs = (omega (arith, heads.slot-room (c .before .before .before .before .before .before .before .before .before .before .before .before .before .before .before .before .before .before .before .before .before .before .before .before .before .before .before .before .before .before .pre .1 .0 .0)), laws.two-types (c .before .before .before .before .before .before .before .before .before .convert-node-type .ensures .walked .walked .grew .good) (laws.type-later (c .before .before .before .before .before .before .before .before .before .convert-node-type .ensures .walked .walked .grew) (c .before .before .before .before .before .before .before .before .before .before .before .before .before .before .before .before .before .before .before .before .before .type-check-expression .ensures .walked .is)) (c .before .before .before .before .before .before .before .before .before .convert-node-type .ensures .walked .is))
+cast-cast-requires t c κs = (omega (arith, heads.slot-room (c .before .before .before .before .before .before .before .before .before .before .before .before .before .before .before .before .before .before .before .before .before .before .before .before .before .before .before .before .before .before .before .before .pre .1 .0 .0)), laws.two-types (c .before .before .before .before .before .before .before .before .before .convert-node-type .ensures .walked .walked .grew .good) (laws.type-later (c .before .before .before .before .before .before .before .before .before .convert-node-type .ensures .walked .walked .grew) (c .before .before .before .before .before .before .before .before .before .before .before .before .before .before .before .before .before .before .before .before .before .before .type-check-expression .ensures .walked .is)) (c .before .before .before .before .before .before .before .before .before .convert-node-type .ensures .walked .is))
 
 cast-put-slot-requires : (t : ℕ) → cast-lts.Need-put-slot-requires (cast-claims t) (cast-at t) cast.Post
-cast-put-slot-requires t c κs = omega (arith, heads.slot-room (c .before .before .before .before .before .before .before .before .before .before .before .before .before .before .before .before .before .before .before .before .before .before .before .before .before .before .before .before .before .before .before .before .before .before .pre .1 .0 .0), (c .before .before .before .before .before .before .before .before .before .before .before .before .before .before .before .before .before .before .before .before .before .before .before .before .before .before .before .before .before .before .before .before .before .before .pre .1 .1) .long, c .before .before .before .before .before .before .before .before .before .before .before .before .before .before .before .before .before .before .before .before .before .before .before .before .before .type-check-expression .ensures .walked .walked .frame .long, c .before .before .before .before .before .before .before .before .before .before .before .before .before .convert-node-type .ensures .walked .walked .frame .long)
+cast-put-slot-requires t c κs = omega (arith, heads.slot-room (c .before .before .before .before .before .before .before .before .before .before .before .before .before .before .before .before .before .before .before .before .before .before .before .before .before .before .before .before .before .before .before .before .before .before .before .before .pre .1 .0 .0), (c .before .before .before .before .before .before .before .before .before .before .before .before .before .before .before .before .before .before .before .before .before .before .before .before .before .before .before .before .before .before .before .before .before .before .before .before .pre .1 .1) .long, c .before .before .before .before .before .before .before .before .before .before .before .before .before .before .before .before .before .before .before .before .before .before .before .before .before .before .type-check-expression .ensures .walked .walked .frame .long, c .before .before .before .before .before .before .before .before .before .before .before .before .before .convert-node-type .ensures .walked .walked .frame .long)
 
 cast-same-length : (t : ℕ) → cast-lts.Need-same-length (cast-claims t) (cast-at t) cast.Post
-cast-same-length t c = omega (arith, c .before .before .before .before .before .before .before .before .before .before .before .before .before .before .before .before .before .before .before .before .before .before .before .before .before .before .before .before .type-check-expression .kept .1 .1 .1 .1 .1 .0, c .before .before .before .before .before .before .before .before .before .before .before .before .before .before .before .before .convert-node-type .kept .1 .1 .1 .1 .1 .0, c .before .before .put-slot .kept .0)
+cast-same-length t c = omega (arith, c .before .before .before .before .before .before .before .before .before .before .before .before .before .before .before .before .before .before .before .before .before .before .before .before .before .before .before .before .before .type-check-expression .kept .1 .1 .1 .1 .1 .0, c .before .before .before .before .before .before .before .before .before .before .before .before .before .before .before .before .convert-node-type .kept .1 .1 .1 .1 .1 .0, c .before .before .put-slot .kept .0)
 
 cast-same-length-2 : (t : ℕ) → cast-lts.Need-same-length-2 (cast-claims t) (cast-at t) cast.Post
-cast-same-length-2 t c = omega (arith, c .before .before .before .before .before .before .before .before .before .before .before .before .before .before .before .before .before .before .before .before .before .before .before .before .before .before .before .before .type-check-expression .kept .1 .1 .1 .1 .1 .1 .0, c .before .before .before .before .before .before .before .before .before .before .before .before .before .before .before .before .convert-node-type .kept .1 .1 .1 .1 .1 .1 .0, c .before .before .before .before .before .before .cast .kept .1 .1 .1 .1 .0)
+cast-same-length-2 t c = omega (arith, c .before .before .before .before .before .before .before .before .before .before .before .before .before .before .before .before .before .before .before .before .before .before .before .before .before .before .before .before .before .type-check-expression .kept .1 .1 .1 .1 .1 .1 .0, c .before .before .before .before .before .before .before .before .before .before .before .before .before .before .before .before .convert-node-type .kept .1 .1 .1 .1 .1 .1 .0, c .before .before .before .before .before .before .cast .kept .1 .1 .1 .1 .0)
 
 cast-same-length-3 : (t : ℕ) → cast-lts.Need-same-length-3 (cast-claims t) (cast-at t) cast.Post
-cast-same-length-3 t c = omega (arith, c .before .before .before .before .before .before .before .before .before .before .before .before .before .before .before .before .before .before .before .before .before .before .before .before .before .before .before .before .type-check-expression .kept .1 .1 .1 .1 .1 .1 .1 .0, c .before .before .before .before .before .before .before .before .before .before .before .before .before .before .before .before .convert-node-type .kept .1 .1 .1 .1 .1 .1 .1 .0)
+cast-same-length-3 t c = omega (arith, c .before .before .before .before .before .before .before .before .before .before .before .before .before .before .before .before .before .before .before .before .before .before .before .before .before .before .before .before .before .type-check-expression .kept .1 .1 .1 .1 .1 .1 .1 .0, c .before .before .before .before .before .before .before .before .before .before .before .before .before .before .before .before .convert-node-type .kept .1 .1 .1 .1 .1 .1 .1 .0)
 
 cast-returns : (t : ℕ) → cast-lts.Need-returns (cast-claims t) (cast-at t) cast.Post
-cast-returns t c = laws.cast-carried (c .before .before .before .before .before .before .before .before .before .before .before .before .before .before .before .before .before .before .before .before .before .before .before .before .before .before .before .before .before .before .before .before .before .before .before .before .before .pre .1 .0 .0) (c .before .before .before .before .before .before .before .before .before .before .before .before .before .before .before .before .before .before .before .before .before .before .before .before .before .before .before .before .before .before .before .before .before .before .before .before .before .pre .1 .0 .1) (c .before .before .before .before .before .before .before .before .before .before .before .before .before .before .before .before .before .before .before .before .before .before .before .before .before .before .before .before .before .before .before .before .before .before .before .before .before .pre .1 .1) (c .before .before .before .before .before .before .before .before .before .before .before .before .before .before .before .before .before .before .before .before .before .before .before .before .before .before .before .before .type-check-expression .ensures) _ (heads.stops-at _ _ _ (c .before .before .before .before .before .before .before .before .before .before .before .before .before .before .before .before .before .before .before .before .length-at .ensures)) (c .before .before .before .before .before .before .before .before .before .before .before .before .before .before .before .before .convert-node-type .ensures) _ (c .before .before .before .before .before .before .cast .ensures) _ (c .before .before .put-slot .ensures)
+cast-returns t c = laws.cast-carried (c .before .before .before .before .before .before .before .before .before .before .before .before .before .before .before .before .before .before .before .before .before .before .before .before .before .before .before .before .before .before .before .before .before .before .before .before .before .before .before .pre .1 .0 .0) (c .before .before .before .before .before .before .before .before .before .before .before .before .before .before .before .before .before .before .before .before .before .before .before .before .before .before .before .before .before .before .before .before .before .before .before .before .before .before .before .pre .1 .0 .1) (c .before .before .before .before .before .before .before .before .before .before .before .before .before .before .before .before .before .before .before .before .before .before .before .before .before .before .before .before .before .before .before .before .before .before .before .before .before .before .before .pre .1 .1) (c .before .before .before .before .before .before .before .before .before .before .before .before .before .before .before .before .before .before .before .before .before .before .before .before .before .before .before .before .before .type-check-expression .ensures) _ (heads.stops-at _ _ _ (c .before .before .before .before .before .before .before .before .before .before .before .before .before .before .before .before .before .before .before .before .before .length-at .ensures)) (c .before .before .before .before .before .before .before .before .before .before .before .before .before .before .before .before .convert-node-type .ensures) _ (c .before .before .before .before .before .before .cast .ensures) _ (c .before .before .put-slot .ensures)
 
 one-operand-sub-inner : (t : ℕ) → one-operand-lts.Need-sub-inner (one-operand-claims t) (one-operand-at t) one-operand.Post
 one-operand-sub-inner t c = omega (arith, (c .before .before .before .before .before .pre .1 .0) .deep)
@@ -291,13 +291,13 @@ one-operand-type-check-expression-requires :
       put-slot-reads.Asked,
       put-slot-reads.Learnt,
     ) (one-operand-at t) one-operand.Post
-one-operand-type-check-expression-requires t c κs = (omega (arith, c .before .before .before .before .before .before .before .before .pre .0, (c .before .before .before .before .before .before .before .before .pre .1 .0) .deep), ((c .before .before .before .before .before .before .before .before .pre .1 .0) .operand, c .before .before .before .before .before .before .before .before .pre .1 .1))
+one-operand-type-check-expression-requires t c κs = (omega (arith, c .before .before .before .before .before .before .before .before .before .pre .0, (c .before .before .before .before .before .before .before .before .before .pre .1 .0) .deep), ((c .before .before .before .before .before .before .before .before .before .pre .1 .0) .operand, c .before .before .before .before .before .before .before .before .before .pre .1 .1))
 
 one-operand-unary-requires : (t : ℕ) → one-operand-lts.Need-unary-requires (one-operand-claims t) (one-operand-at t) one-operand.Post
-one-operand-unary-requires t c κs = (omega (arith, (c .before .before .before .before .before .before .before .before .before .before .before .before .before .before .before .before .before .before .pre .1 .0) .slot, heads.slot-room ((c .before .before .before .before .before .before .before .before .before .before .before .before .before .before .before .before .before .before .pre .1 .0) .operand)), laws.one-type (c .before .before .before .before .before .before .before .before .before .type-check-expression .ensures .walked .walked .grew .good) (c .before .before .before .before .before .before .before .before .before .type-check-expression .ensures .walked .is))
+one-operand-unary-requires t c κs = ((omega (arith, (c .before .before .before .before .before .before .before .before .before .before .before .before .before .before .before .before .before .before .before .before .pre .1 .0) .slot, heads.slot-room ((c .before .before .before .before .before .before .before .before .before .before .before .before .before .before .before .before .before .before .before .before .pre .1 .0) .operand)), laws.one-type (c .before .before .before .before .before .before .before .before .before .before .type-check-expression .ensures .walked .walked .grew .good) (c .before .before .before .before .before .before .before .before .before .before .type-check-expression .ensures .walked .is)), c .before .before .before .before .before .before .before .before .before .before .type-check-expression .ensures .walked .walked .grew .good .indexed)
 
 one-operand-put-slot-requires : (t : ℕ) → one-operand-lts.Need-put-slot-requires (one-operand-claims t) (one-operand-at t) one-operand.Post
-one-operand-put-slot-requires t c κs = omega (arith, (c .before .before .before .before .before .before .before .before .before .before .before .before .before .before .before .before .before .before .before .before .before .before .before .before .pre .1 .0) .slot, heads.slot-room ((c .before .before .before .before .before .before .before .before .before .before .before .before .before .before .before .before .before .before .before .before .before .before .before .before .pre .1 .0) .operand), (c .before .before .before .before .before .before .before .before .before .before .before .before .before .before .before .before .before .before .before .before .before .before .before .before .pre .1 .1) .long, c .before .before .before .before .before .before .before .before .before .before .before .before .before .before .before .type-check-expression .ensures .walked .walked .frame .long)
+one-operand-put-slot-requires t c κs = omega (arith, (c .before .before .before .before .before .before .before .before .before .before .before .before .before .before .before .before .before .before .before .before .before .before .before .before .before .before .pre .1 .0) .slot, heads.slot-room ((c .before .before .before .before .before .before .before .before .before .before .before .before .before .before .before .before .before .before .before .before .before .before .before .before .before .before .pre .1 .0) .operand), (c .before .before .before .before .before .before .before .before .before .before .before .before .before .before .before .before .before .before .before .before .before .before .before .before .before .before .pre .1 .1) .long, c .before .before .before .before .before .before .before .before .before .before .before .before .before .before .before .before .type-check-expression .ensures .walked .walked .frame .long)
 
 one-operand-same-length : (t : ℕ) → one-operand-lts.Need-same-length (one-operand-claims t) (one-operand-at t) one-operand.Post
 one-operand-same-length t c = search needs
@@ -309,7 +309,7 @@ one-operand-same-length-3 : (t : ℕ) → one-operand-lts.Need-same-length-3 (on
 one-operand-same-length-3 t c = search needs
 
 one-operand-returns : (t : ℕ) → one-operand-lts.Need-returns (one-operand-claims t) (one-operand-at t) one-operand.Post
-one-operand-returns t c = laws.one-operand-carried (c .before .before .before .before .before .before .before .before .before .before .before .before .before .before .before .before .before .before .before .before .before .before .before .before .before .before .before .pre .1 .0) (c .before .before .before .before .before .before .before .before .before .before .before .before .before .before .before .before .before .before .before .before .before .before .before .before .before .before .before .pre .1 .1) (c .before .before .before .before .before .before .before .before .before .before .before .before .before .before .before .before .before .before .type-check-expression .ensures) _ (c .before .before .before .before .before .before .before .before .unary .ensures) _ (c .before .before .put-slot .ensures)
+one-operand-returns t c = laws.one-operand-carried (c .before .before .before .before .before .before .before .before .before .before .before .before .before .before .before .before .before .before .before .before .before .before .before .before .before .before .before .before .before .pre .1 .0) (c .before .before .before .before .before .before .before .before .before .before .before .before .before .before .before .before .before .before .before .before .before .before .before .before .before .before .before .before .before .pre .1 .1) (c .before .before .before .before .before .before .before .before .before .before .before .before .before .before .before .before .before .before .before .type-check-expression .ensures) _ (c .before .before .before .before .before .before .before .before .unary .ensures) _ (c .before .before .put-slot .ensures)
 
 two-operands-sub-inner : (t : ℕ) → two-operands-lts.Need-sub-inner (two-operands-claims t) (two-operands-at t) two-operands.Post
 two-operands-sub-inner t c = omega (arith, (c .before .before .before .before .before .pre .1 .0) .deep)
@@ -325,13 +325,13 @@ two-operands-type-check-expression-requires :
       put-slot-reads.Asked,
       put-slot-reads.Learnt,
     ) (two-operands-at t) two-operands.Post
-two-operands-type-check-expression-requires t c κs = (omega (arith, c .before .before .before .before .before .before .before .before .pre .0, (c .before .before .before .before .before .before .before .before .pre .1 .0) .deep), ((c .before .before .before .before .before .before .before .before .pre .1 .0) .left, c .before .before .before .before .before .before .before .before .pre .1 .1))
+two-operands-type-check-expression-requires t c κs = (omega (arith, c .before .before .before .before .before .before .before .before .before .pre .0, (c .before .before .before .before .before .before .before .before .before .pre .1 .0) .deep), ((c .before .before .before .before .before .before .before .before .before .pre .1 .0) .left, c .before .before .before .before .before .before .before .before .before .pre .1 .1))
 
 two-operands-length-at-requires : (t : ℕ) → two-operands-lts.Need-length-at-requires (two-operands-claims t) (two-operands-at t) two-operands.Post
-two-operands-length-at-requires t c κs = omega (arith, heads.slot-room ((c .before .before .before .before .before .before .before .before .before .before .before .before .before .before .before .before .pre .1 .0) .left))
+two-operands-length-at-requires t c κs = omega (arith, heads.slot-room ((c .before .before .before .before .before .before .before .before .before .before .before .before .before .before .before .before .before .pre .1 .0) .left))
 
 two-operands-add-second : (t : ℕ) → two-operands-lts.Need-add-second (two-operands-claims t) (two-operands-at t) two-operands.Post
-two-operands-add-second t c = omega (arith, heads.stop-room ((c .before .before .before .before .before .before .before .before .before .before .before .before .before .before .before .before .before .pre .1 .0) .left), heads.few ((c .before .before .before .before .before .before .before .before .before .before .before .before .before .before .before .before .before .pre .1 .0) .left), c .length-at .ensures .is)
+two-operands-add-second t c = omega (arith, heads.stop-room ((c .before .before .before .before .before .before .before .before .before .before .before .before .before .before .before .before .before .before .pre .1 .0) .left), heads.few ((c .before .before .before .before .before .before .before .before .before .before .before .before .before .before .before .before .before .before .pre .1 .0) .left), c .length-at .ensures .is)
 
 two-operands-type-check-expression-requires-2 :
     (t : ℕ) → two-operands-lts.Need-type-check-expression-requires-2 (
@@ -344,31 +344,31 @@ two-operands-type-check-expression-requires-2 :
       put-slot-reads.Asked,
       put-slot-reads.Learnt,
     ) (two-operands-at t) two-operands.Post
-two-operands-type-check-expression-requires-2 t c κs = (omega (arith, c .before .before .before .before .before .before .before .before .before .before .before .before .before .before .before .before .before .before .before .before .pre .0, (c .before .before .before .before .before .before .before .before .before .before .before .before .before .before .before .before .before .before .before .before .pre .1 .0) .deep), (heads.fine-at (heads.stops-at _ _ _ (c .before .before .before .length-at .ensures)) ((c .before .before .before .before .before .before .before .before .before .before .before .before .before .before .before .before .before .before .before .before .pre .1 .0) .right), laws.ready-later (c .before .before .before .before .before .before .before .before .before .before .before .before .before .before .before .before .before .before .before .before .pre .1 .1) (c .before .before .before .before .before .before .before .before .before .before .before .type-check-expression .ensures .walked .walked .grew) (c .before .before .before .before .before .before .before .before .before .before .before .type-check-expression .ensures .walked .walked .frame .long)))
+two-operands-type-check-expression-requires-2 t c κs = (omega (arith, c .before .before .before .before .before .before .before .before .before .before .before .before .before .before .before .before .before .before .before .before .before .before .pre .0, (c .before .before .before .before .before .before .before .before .before .before .before .before .before .before .before .before .before .before .before .before .before .before .pre .1 .0) .deep), (heads.fine-at (heads.stops-at _ _ _ (c .before .before .before .before .length-at .ensures)) ((c .before .before .before .before .before .before .before .before .before .before .before .before .before .before .before .before .before .before .before .before .before .before .pre .1 .0) .right), laws.ready-later (c .before .before .before .before .before .before .before .before .before .before .before .before .before .before .before .before .before .before .before .before .before .before .pre .1 .1) (c .before .before .before .before .before .before .before .before .before .before .before .before .type-check-expression .ensures .walked .walked .grew) (c .before .before .before .before .before .before .before .before .before .before .before .before .type-check-expression .ensures .walked .walked .frame .long)))
 
 two-operands-binary-requires : (t : ℕ) → two-operands-lts.Need-binary-requires (two-operands-claims t) (two-operands-at t) two-operands.Post
-two-operands-binary-requires t c κs = (omega (arith, (c .before .before .before .before .before .before .before .before .before .before .before .before .before .before .before .before .before .before .before .before .before .before .before .before .before .before .before .before .before .before .pre .1 .0) .slot, heads.slot-room ((c .before .before .before .before .before .before .before .before .before .before .before .before .before .before .before .before .before .before .before .before .before .before .before .before .before .before .before .before .before .before .pre .1 .0) .left)), omega (arith, heads.slot-room (heads.fine-at (heads.stops-at _ _ _ (c .before .before .before .before .before .before .before .before .before .before .before .before .before .length-at .ensures)) ((c .before .before .before .before .before .before .before .before .before .before .before .before .before .before .before .before .before .before .before .before .before .before .before .before .before .before .before .before .before .before .pre .1 .0) .right))), laws.two-types (c .before .before .before .before .before .before .before .before .before .type-check-expression2 .ensures .walked .walked .grew .good) (laws.type-later (c .before .before .before .before .before .before .before .before .before .type-check-expression2 .ensures .walked .walked .grew) (c .before .before .before .before .before .before .before .before .before .before .before .before .before .before .before .before .before .before .before .before .before .type-check-expression .ensures .walked .is)) (c .before .before .before .before .before .before .before .before .before .type-check-expression2 .ensures .walked .is))
+two-operands-binary-requires t c κs = (omega (arith, (c .before .before .before .before .before .before .before .before .before .before .before .before .before .before .before .before .before .before .before .before .before .before .before .before .before .before .before .before .before .before .before .before .pre .1 .0) .slot, heads.slot-room ((c .before .before .before .before .before .before .before .before .before .before .before .before .before .before .before .before .before .before .before .before .before .before .before .before .before .before .before .before .before .before .before .before .pre .1 .0) .left)), omega (arith, heads.slot-room (heads.fine-at (heads.stops-at _ _ _ (c .before .before .before .before .before .before .before .before .before .before .before .before .before .before .length-at .ensures)) ((c .before .before .before .before .before .before .before .before .before .before .before .before .before .before .before .before .before .before .before .before .before .before .before .before .before .before .before .before .before .before .before .before .pre .1 .0) .right))), laws.two-types (c .before .before .before .before .before .before .before .before .before .type-check-expression2 .ensures .walked .walked .grew .good) (laws.type-later (c .before .before .before .before .before .before .before .before .before .type-check-expression2 .ensures .walked .walked .grew) (c .before .before .before .before .before .before .before .before .before .before .before .before .before .before .before .before .before .before .before .before .before .before .type-check-expression .ensures .walked .is)) (c .before .before .before .before .before .before .before .before .before .type-check-expression2 .ensures .walked .is))
 
 two-operands-put-slot-requires : (t : ℕ) → two-operands-lts.Need-put-slot-requires (two-operands-claims t) (two-operands-at t) two-operands.Post
-two-operands-put-slot-requires t c κs = omega (arith, (c .before .before .before .before .before .before .before .before .before .before .before .before .before .before .before .before .before .before .before .before .before .before .before .before .before .before .before .before .before .before .before .before .before .before .pre .1 .0) .slot, heads.slot-room ((c .before .before .before .before .before .before .before .before .before .before .before .before .before .before .before .before .before .before .before .before .before .before .before .before .before .before .before .before .before .before .before .before .before .before .pre .1 .0) .left), (c .before .before .before .before .before .before .before .before .before .before .before .before .before .before .before .before .before .before .before .before .before .before .before .before .before .before .before .before .before .before .before .before .before .before .pre .1 .1) .long, c .before .before .before .before .before .before .before .before .before .before .before .before .before .before .before .before .before .before .before .before .before .before .before .before .before .type-check-expression .ensures .walked .walked .frame .long, c .before .before .before .before .before .before .before .before .before .before .before .before .before .type-check-expression2 .ensures .walked .walked .frame .long)
+two-operands-put-slot-requires t c κs = omega (arith, (c .before .before .before .before .before .before .before .before .before .before .before .before .before .before .before .before .before .before .before .before .before .before .before .before .before .before .before .before .before .before .before .before .before .before .before .before .pre .1 .0) .slot, heads.slot-room ((c .before .before .before .before .before .before .before .before .before .before .before .before .before .before .before .before .before .before .before .before .before .before .before .before .before .before .before .before .before .before .before .before .before .before .before .before .pre .1 .0) .left), (c .before .before .before .before .before .before .before .before .before .before .before .before .before .before .before .before .before .before .before .before .before .before .before .before .before .before .before .before .before .before .before .before .before .before .before .before .pre .1 .1) .long, c .before .before .before .before .before .before .before .before .before .before .before .before .before .before .before .before .before .before .before .before .before .before .before .before .before .before .type-check-expression .ensures .walked .walked .frame .long, c .before .before .before .before .before .before .before .before .before .before .before .before .before .type-check-expression2 .ensures .walked .walked .frame .long)
 
 two-operands-same-length : (t : ℕ) → two-operands-lts.Need-same-length (two-operands-claims t) (two-operands-at t) two-operands.Post
-two-operands-same-length t c = omega (arith, c .before .before .before .before .before .before .before .before .before .before .before .before .before .before .before .before .before .before .before .before .before .before .before .before .before .before .before .before .type-check-expression .kept .1 .1 .1 .1 .1 .0, c .before .before .before .before .before .before .before .before .before .before .before .before .before .before .before .before .type-check-expression2 .kept .1 .1 .1 .1 .1 .0, c .before .before .put-slot .kept .0)
+two-operands-same-length t c = omega (arith, c .before .before .before .before .before .before .before .before .before .before .before .before .before .before .before .before .before .before .before .before .before .before .before .before .before .before .before .before .before .type-check-expression .kept .1 .1 .1 .1 .1 .0, c .before .before .before .before .before .before .before .before .before .before .before .before .before .before .before .before .type-check-expression2 .kept .1 .1 .1 .1 .1 .0, c .before .before .put-slot .kept .0)
 
 two-operands-same-length-2 : (t : ℕ) → two-operands-lts.Need-same-length-2 (two-operands-claims t) (two-operands-at t) two-operands.Post
-two-operands-same-length-2 t c = omega (arith, c .before .before .before .before .before .before .before .before .before .before .before .before .before .before .before .before .before .before .before .before .before .before .before .before .before .before .before .before .type-check-expression .kept .1 .1 .1 .1 .1 .1 .0, c .before .before .before .before .before .before .before .before .before .before .before .before .before .before .before .before .type-check-expression2 .kept .1 .1 .1 .1 .1 .1 .0, c .before .before .before .before .before .before .binary .kept .1 .1 .1 .1 .1 .1 .0)
+two-operands-same-length-2 t c = omega (arith, c .before .before .before .before .before .before .before .before .before .before .before .before .before .before .before .before .before .before .before .before .before .before .before .before .before .before .before .before .before .type-check-expression .kept .1 .1 .1 .1 .1 .1 .0, c .before .before .before .before .before .before .before .before .before .before .before .before .before .before .before .before .type-check-expression2 .kept .1 .1 .1 .1 .1 .1 .0, c .before .before .before .before .before .before .binary .kept .1 .1 .1 .1 .1 .1 .0)
 
 two-operands-same-length-3 : (t : ℕ) → two-operands-lts.Need-same-length-3 (two-operands-claims t) (two-operands-at t) two-operands.Post
-two-operands-same-length-3 t c = omega (arith, c .before .before .before .before .before .before .before .before .before .before .before .before .before .before .before .before .before .before .before .before .before .before .before .before .before .before .before .before .type-check-expression .kept .1 .1 .1 .1 .1 .1 .1 .0, c .before .before .before .before .before .before .before .before .before .before .before .before .before .before .before .before .type-check-expression2 .kept .1 .1 .1 .1 .1 .1 .1 .0)
+two-operands-same-length-3 t c = omega (arith, c .before .before .before .before .before .before .before .before .before .before .before .before .before .before .before .before .before .before .before .before .before .before .before .before .before .before .before .before .before .type-check-expression .kept .1 .1 .1 .1 .1 .1 .1 .0, c .before .before .before .before .before .before .before .before .before .before .before .before .before .before .before .before .type-check-expression2 .kept .1 .1 .1 .1 .1 .1 .1 .0)
 
 two-operands-returns : (t : ℕ) → two-operands-lts.Need-returns (two-operands-claims t) (two-operands-at t) two-operands.Post
-two-operands-returns t c = laws.two-operands-carried (c .before .before .before .before .before .before .before .before .before .before .before .before .before .before .before .before .before .before .before .before .before .before .before .before .before .before .before .before .before .before .before .before .before .before .before .before .before .pre .1 .0) (c .before .before .before .before .before .before .before .before .before .before .before .before .before .before .before .before .before .before .before .before .before .before .before .before .before .before .before .before .before .before .before .before .before .before .before .before .before .pre .1 .1) (c .before .before .before .before .before .before .before .before .before .before .before .before .before .before .before .before .before .before .before .before .before .before .before .before .before .before .before .before .type-check-expression .ensures) _ (heads.stops-at _ _ _ (c .before .before .before .before .before .before .before .before .before .before .before .before .before .before .before .before .before .before .before .before .length-at .ensures)) (c .before .before .before .before .before .before .before .before .before .before .before .before .before .before .before .before .type-check-expression2 .ensures) _ (c .before .before .before .before .before .before .binary .ensures) _ (c .before .before .put-slot .ensures)
+two-operands-returns t c = laws.two-operands-carried (c .before .before .before .before .before .before .before .before .before .before .before .before .before .before .before .before .before .before .before .before .before .before .before .before .before .before .before .before .before .before .before .before .before .before .before .before .before .before .before .pre .1 .0) (c .before .before .before .before .before .before .before .before .before .before .before .before .before .before .before .before .before .before .before .before .before .before .before .before .before .before .before .before .before .before .before .before .before .before .before .before .before .before .before .pre .1 .1) (c .before .before .before .before .before .before .before .before .before .before .before .before .before .before .before .before .before .before .before .before .before .before .before .before .before .before .before .before .before .type-check-expression .ensures) _ (heads.stops-at _ _ _ (c .before .before .before .before .before .before .before .before .before .before .before .before .before .before .before .before .before .before .before .before .before .length-at .ensures)) (c .before .before .before .before .before .before .before .before .before .before .before .before .before .before .before .before .type-check-expression2 .ensures) _ (c .before .before .before .before .before .before .binary .ensures) _ (c .before .before .put-slot .ensures)
 
 type-check-expression-enter-requires : (t : ℕ) → type-check-expression-lts.Need-enter-requires (type-check-expression-claims t) (type-check-expression-at t) type-check-expression.Post
 type-check-expression-enter-requires t c κs = c .before .before .before .before .before .pre .1 .0
 
 type-check-expression-leaf-requires : (t : ℕ) → type-check-expression-lts.Need-leaf-requires (type-check-expression-claims t) (type-check-expression-at t) type-check-expression.Post
-type-check-expression-leaf-requires t c κs = (((c .before .before .before .before .before .before .before .before .before .before .pre .1 .0), (c .before .before .before .before .enter .ensures) .kinds, c .before .before .before .if1 .taken), c .before .before .before .before .before .before .before .before .before .before .pre .1 .1)
+type-check-expression-leaf-requires t c κs = (((c .before .before .before .before .before .before .before .before .before .before .before .pre .1 .0), (c .before .before .before .before .before .enter .ensures) .kinds, c .before .before .before .before .if1 .taken), c .before .before .before .before .before .before .before .before .before .before .before .pre .1 .1)
 
 type-check-expression-same-length : (t : ℕ) → type-check-expression-lts.Need-same-length (type-check-expression-claims t) (type-check-expression-at t) type-check-expression.Post
 type-check-expression-same-length t c = search needs
@@ -383,7 +383,7 @@ type-check-expression-returns : (t : ℕ) → type-check-expression-lts.Need-ret
 type-check-expression-returns t c = c .before .before .before .before .leaf .ensures
 
 type-check-expression-call-requires : (t : ℕ) → type-check-expression-lts.Need-call-requires (type-check-expression-claims t) (type-check-expression-at t) type-check-expression.Post
-type-check-expression-call-requires t c κs = (omega (arith, c .before .before .before .before .before .before .before .before .before .before .before .pre .0), (((c .before .before .before .before .before .before .before .before .before .before .before .pre .1 .0), heads.is-kind (c .before .before .before .before .before .before .before .before .before .before .before .pre .1 .0) (c .before .before .before .before .before .enter .ensures) (c .before .before .before .match .keys1)), c .before .before .before .before .before .before .before .before .before .before .before .pre .1 .1))
+type-check-expression-call-requires t c κs = (omega (arith, c .before .before .before .before .before .before .before .before .before .before .before .before .pre .0), (((c .before .before .before .before .before .before .before .before .before .before .before .before .pre .1 .0), heads.is-kind (c .before .before .before .before .before .before .before .before .before .before .before .before .pre .1 .0) (c .before .before .before .before .before .before .enter .ensures) (c .before .before .before .before .match .keys1)), c .before .before .before .before .before .before .before .before .before .before .before .before .pre .1 .1))
 
 type-check-expression-two-operands-requires :
     (t : ℕ) → type-check-expression-lts.Need-two-operands-requires (
@@ -402,13 +402,13 @@ type-check-expression-two-operands-requires :
       one-operand-below t,
       one-operand.Post,
     ) (type-check-expression-at t) type-check-expression.Post
-type-check-expression-two-operands-requires t c κs = (omega (arith, c .before .before .before .before .before .before .before .before .before .before .before .pre .0), (heads.index-operands (c .before .before .before .before .before .before .before .before .before .before .before .pre .1 .0) (c .before .before .before .before .before .enter .ensures) (c .before .before .before .match .keys2), c .before .before .before .before .before .before .before .before .before .before .before .pre .1 .1))
+type-check-expression-two-operands-requires t c κs = (omega (arith, c .before .before .before .before .before .before .before .before .before .before .before .before .pre .0), (heads.index-operands (c .before .before .before .before .before .before .before .before .before .before .before .before .pre .1 .0) (c .before .before .before .before .before .before .enter .ensures) (c .before .before .before .before .match .keys2), c .before .before .before .before .before .before .before .before .before .before .before .before .pre .1 .1))
 
 type-check-expression-cast-requires : (t : ℕ) → type-check-expression-lts.Need-cast-requires (type-check-expression-claims t) (type-check-expression-at t) type-check-expression.Post
-type-check-expression-cast-requires t c κs = (omega (arith, c .before .before .before .before .before .before .before .before .before .before .before .pre .0), (((c .before .before .before .before .before .before .before .before .before .before .before .pre .1 .0), heads.is-kind (c .before .before .before .before .before .before .before .before .before .before .before .pre .1 .0) (c .before .before .before .before .before .enter .ensures) (c .before .before .before .match .keys3)), c .before .before .before .before .before .before .before .before .before .before .before .pre .1 .1))
+type-check-expression-cast-requires t c κs = (omega (arith, c .before .before .before .before .before .before .before .before .before .before .before .before .pre .0), (((c .before .before .before .before .before .before .before .before .before .before .before .before .pre .1 .0), heads.is-kind (c .before .before .before .before .before .before .before .before .before .before .before .before .pre .1 .0) (c .before .before .before .before .before .before .enter .ensures) (c .before .before .before .before .match .keys3)), c .before .before .before .before .before .before .before .before .before .before .before .before .pre .1 .1))
 
 type-check-expression-sizeof-requires : (t : ℕ) → type-check-expression-lts.Need-sizeof-requires (type-check-expression-claims t) (type-check-expression-at t) type-check-expression.Post
-type-check-expression-sizeof-requires t c κs = (((c .before .before .before .before .before .before .before .before .before .before .before .pre .1 .0), heads.is-kind (c .before .before .before .before .before .before .before .before .before .before .before .pre .1 .0) (c .before .before .before .before .before .enter .ensures) (c .before .before .before .match .keys4)), c .before .before .before .before .before .before .before .before .before .before .before .pre .1 .1)
+type-check-expression-sizeof-requires t c κs = (((c .before .before .before .before .before .before .before .before .before .before .before .before .pre .1 .0), heads.is-kind (c .before .before .before .before .before .before .before .before .before .before .before .before .pre .1 .0) (c .before .before .before .before .before .before .enter .ensures) (c .before .before .before .before .match .keys4)), c .before .before .before .before .before .before .before .before .before .before .before .before .pre .1 .1)
 
 type-check-expression-one-operand-requires :
     (t : ℕ) → type-check-expression-lts.Need-one-operand-requires (
@@ -427,7 +427,7 @@ type-check-expression-one-operand-requires :
       one-operand-below t,
       one-operand.Post,
     ) (type-check-expression-at t) type-check-expression.Post
-type-check-expression-one-operand-requires t c κs = (omega (arith, c .before .before .before .before .before .before .before .before .before .before .before .before .pre .0), (heads.one-operand (c .before .before .before .before .before .before .before .before .before .before .before .before .pre .1 .0) (c .before .before .before .before .before .before .enter .ensures) (heads.operator-low (c .before .before .before .before .before .before .before .before .before .before .before .before .pre .1 .0) (c .before .before .before .before .before .before .enter .ensures) (c .before .before .before .before .before .if1 .left) (c .before .before .before .before .match .rest .0 .0 .0 .1) (c .before .before .before .before .match .rest .0 .0 .1) (c .before .before .before .before .match .rest .0 .1)) (c .before .before .before .if2 .taken), c .before .before .before .before .before .before .before .before .before .before .before .before .pre .1 .1))
+type-check-expression-one-operand-requires t c κs = (omega (arith, c .before .before .before .before .before .before .before .before .before .before .before .before .before .pre .0), (heads.one-operand (c .before .before .before .before .before .before .before .before .before .before .before .before .before .pre .1 .0) (c .before .before .before .before .before .before .before .enter .ensures) (heads.operator-low (c .before .before .before .before .before .before .before .before .before .before .before .before .before .pre .1 .0) (c .before .before .before .before .before .before .before .enter .ensures) (c .before .before .before .before .before .before .if1 .left) (c .before .before .before .before .before .match .rest .0 .0 .0 .1) (c .before .before .before .before .before .match .rest .0 .0 .1) (c .before .before .before .before .before .match .rest .0 .1)) (c .before .before .before .before .if2 .taken), c .before .before .before .before .before .before .before .before .before .before .before .before .before .pre .1 .1))
 
 type-check-expression-same-length-4 : (t : ℕ) → type-check-expression-lts.Need-same-length-4 (type-check-expression-claims t) (type-check-expression-at t) type-check-expression.Post
 type-check-expression-same-length-4 t c = search needs
@@ -458,7 +458,7 @@ type-check-expression-two-operands-requires-2 :
       one-operand-below t,
       one-operand.Post,
     ) (type-check-expression-at t) type-check-expression.Post
-type-check-expression-two-operands-requires-2 t c κs = (omega (arith, c .before .before .before .before .before .before .before .before .before .before .before .before .pre .0), (heads.two-operands (c .before .before .before .before .before .before .before .before .before .before .before .before .pre .1 .0) (c .before .before .before .before .before .before .enter .ensures) (c .before .before .before .if2 .left) (heads.operator-high (c .before .before .before .before .before .before .before .before .before .before .before .before .pre .1 .0) (c .before .before .before .before .before .before .enter .ensures) (c .before .before .before .before .match .rest .1)), c .before .before .before .before .before .before .before .before .before .before .before .before .pre .1 .1))
+type-check-expression-two-operands-requires-2 t c κs = (omega (arith, c .before .before .before .before .before .before .before .before .before .before .before .before .before .pre .0), (heads.two-operands (c .before .before .before .before .before .before .before .before .before .before .before .before .before .pre .1 .0) (c .before .before .before .before .before .before .before .enter .ensures) (c .before .before .before .before .if2 .left) (heads.operator-high (c .before .before .before .before .before .before .before .before .before .before .before .before .before .pre .1 .0) (c .before .before .before .before .before .before .before .enter .ensures) (c .before .before .before .before .before .match .rest .1)), c .before .before .before .before .before .before .before .before .before .before .before .before .before .pre .1 .1))
 
 type-check-expression-same-length-7 : (t : ℕ) → type-check-expression-lts.Need-same-length-7 (type-check-expression-claims t) (type-check-expression-at t) type-check-expression.Post
 type-check-expression-same-length-7 t c = search needs
@@ -521,10 +521,10 @@ type-check-expression-returns-7 : (t : ℕ) → type-check-expression-lts.Need-r
 type-check-expression-returns-7 t c = c .before .before .before .before .before .before .two-operands2 .ensures
 
 abbrev type-check-expressions-Inv-loop : type-check-expressions-lts.InvT-loop
-type-check-expressions-Inv-loop s names work from end depth output₀ errors₀ rows₀ at₀ next₀ output errors rows at next = lists.Checking s names depth end from (lent work output₀ errors₀ rows₀ next₀) at (lent work output errors rows next) × (length errors ≡ length errors₀)
+type-check-expressions-Inv-loop s names work from end depth output₀ errors₀ rows₀ buckets₀ at₀ next₀ output errors rows buckets at next = lists.Checking s names depth end from (lent work output₀ errors₀ rows₀ buckets₀ next₀) at (lent work output errors rows buckets next) × (length errors ≡ length errors₀)
 
 abbrev type-check-expressions-μ-loop : type-check-expressions-lts.MeasureT-loop
-type-check-expressions-μ-loop s names work from end depth output₀ errors₀ rows₀ at₀ next₀ output errors rows at next = end - at
+type-check-expressions-μ-loop s names work from end depth output₀ errors₀ rows₀ buckets₀ at₀ next₀ output errors rows buckets at next = end - at
 
 type-check-expressions-loop-holds : (t : ℕ) → type-check-expressions-lts.Need-loop-holds (type-check-expressions-claims t)
     (type-check-expressions-at t)
@@ -544,7 +544,7 @@ type-check-expressions-type-check-expression-requires :
     type-check-expressions.Post
     type-check-expressions-Inv-loop
     type-check-expressions-μ-loop
-type-check-expressions-type-check-expression-requires t c κs = (omega (arith, c .before .before .before .before .before .before .before .before .before .before .pre .0), (lists.first-fine _ _ _ _ (c .before .before .before .before .loop .inv .0) (c .before .before .before .loop-test .taken), (c .before .before .before .before .loop .inv .0) .ready))
+type-check-expressions-type-check-expression-requires t c κs = (omega (arith, c .before .before .before .before .before .before .before .before .before .before .before .pre .0), (lists.first-fine _ _ _ _ (c .before .before .before .before .before .loop .inv .0) (c .before .before .before .before .loop-test .taken), (c .before .before .before .before .before .loop .inv .0) .ready))
 
 type-check-expressions-length-at-requires :
     (t : ℕ) → type-check-expressions-lts.Need-length-at-requires (
@@ -557,28 +557,28 @@ type-check-expressions-length-at-requires :
     type-check-expressions.Post
     type-check-expressions-Inv-loop
     type-check-expressions-μ-loop
-type-check-expressions-length-at-requires t c κs = omega (arith, heads.slot-room (lists.first-fine _ _ _ _ (c .before .before .before .before .before .before .before .before .before .before .before .before .loop .inv .0) (c .before .before .before .before .before .before .before .before .before .before .before .loop-test .taken)))
+type-check-expressions-length-at-requires t c κs = omega (arith, heads.slot-room (lists.first-fine _ _ _ _ (c .before .before .before .before .before .before .before .before .before .before .before .before .before .loop .inv .0) (c .before .before .before .before .before .before .before .before .before .before .before .before .loop-test .taken)))
 
 type-check-expressions-add-at : (t : ℕ) → type-check-expressions-lts.Need-add-at (type-check-expressions-claims t)
     (type-check-expressions-at t)
     type-check-expressions.Post
     type-check-expressions-Inv-loop
     type-check-expressions-μ-loop
-type-check-expressions-add-at t c = omega (arith, heads.stop-room (lists.first-fine _ _ _ _ (c .before .before .before .before .before .before .before .before .before .before .before .before .before .loop .inv .0) (c .before .before .before .before .before .before .before .before .before .before .before .before .loop-test .taken)), heads.few (lists.first-fine _ _ _ _ (c .before .before .before .before .before .before .before .before .before .before .before .before .before .loop .inv .0) (c .before .before .before .before .before .before .before .before .before .before .before .before .loop-test .taken)), c .length-at .ensures .is)
+type-check-expressions-add-at t c = search needs
 
 type-check-expressions-loop-less : (t : ℕ) → type-check-expressions-lts.Need-loop-less (type-check-expressions-claims t)
     (type-check-expressions-at t)
     type-check-expressions.Post
     type-check-expressions-Inv-loop
     type-check-expressions-μ-loop
-type-check-expressions-loop-less t c = omega (arith, lists.first-long _ _ _ _ (c .before .before .before .before .before .before .before .before .before .before .before .before .before .loop .inv .0) (c .before .before .before .before .before .before .before .before .before .before .before .before .loop-test .taken), (c .before .before .before .before .before .before .before .before .before .before .before .before .loop-test .taken), c .length-at .ensures .is)
+type-check-expressions-loop-less t c = omega (arith, lists.first-long _ _ _ _ (c .before .before .before .before .before .before .before .before .before .before .before .before .before .before .loop .inv .0) (c .before .before .before .before .before .before .before .before .before .before .before .before .before .loop-test .taken), (c .before .before .before .before .before .before .before .before .before .before .before .before .before .loop-test .taken), c .length-at .ensures .is)
 
 type-check-expressions-loop-again : (t : ℕ) → type-check-expressions-lts.Need-loop-again (type-check-expressions-claims t)
     (type-check-expressions-at t)
     type-check-expressions.Post
     type-check-expressions-Inv-loop
     type-check-expressions-μ-loop
-type-check-expressions-loop-again t c = (lists.checking-on _ _ _ _ (c .before .before .before .before .before .before .before .before .before .before .before .before .before .loop .inv .0) (c .before .before .before .before .before .before .before .before .before .before .before .before .loop-test .taken) (c .before .before .before .before .before .before .before .before .type-check-expression .ensures) _ (heads.stops-at _ _ _ (c .length-at .ensures)), omega (arith, c .before .before .before .before .before .before .before .before .type-check-expression .kept .1 .1 .1 .1 .1 .1 .0, c .before .before .before .before .before .before .before .before .before .before .before .before .before .loop .inv .1))
+type-check-expressions-loop-again t c = (lists.checking-on _ _ _ _ (c .before .before .before .before .before .before .before .before .before .before .before .before .before .before .loop .inv .0) (c .before .before .before .before .before .before .before .before .before .before .before .before .before .loop-test .taken) (c .before .before .before .before .before .before .before .before .type-check-expression .ensures) _ (heads.stops-at _ _ _ (c .length-at .ensures)), omega (arith, c .before .before .before .before .before .before .before .before .type-check-expression .kept .1 .1 .1 .1 .1 .1 .0, c .before .before .before .before .before .before .before .before .before .before .before .before .before .before .loop .inv .1))
 
 type-check-expressions-same-length : (t : ℕ) → type-check-expressions-lts.Need-same-length (type-check-expressions-claims t)
     (type-check-expressions-at t)

@@ -1,64 +1,51 @@
--- `fields::check_repeats` meets its contract: a law for each exit and each turn of its loop. Assumes nothing.
-use Prim.Native.Nat.{_-_}
-use Rattle.lists.proofs.Chains as chains
+-- `fields::check_repeats` meets its contract. Assumes nothing.
+use mathlib.Core.Path.{sym}
+use Rattle.fields.proofs.Tables as tables
 use borrow.Author.Needs.{needs}
-use Rattle.fields.proofs.Repeats as repeats
 use Rattle.fields.proofs.check_repeats.Statement.{statement}
 use Rattle.fields.proofs.check_repeats.Tie as tie
 
-abbrev Inv-loop : tie.InvT-loop
-Inv-loop s from end errors₀ at₀ next₀ errors at next = repeats.Repeats s from end errors₀ next₀ at errors next
+sub-if1 : tie.Need-sub-if1
+sub-if1 c = search tables.in-order
 
-abbrev μ-loop : tie.MeasureT-loop
-μ-loop s from end errors₀ at₀ next₀ errors at next = end - at
+slice-aggregate-report-repeats : tie.Need-slice-aggregate-report-repeats
+slice-aggregate-report-repeats c = search needs
 
-loop-holds : tie.Need-loop-holds Inv-loop μ-loop
-loop-holds c = search repeats.repeats-start
+report-repeats-requires : tie.Need-report-repeats-requires
+report-repeats-requires c κs = (search needs, search tables.tallied-none)
 
-add-word : tie.Need-add-word Inv-loop μ-loop
-add-word c = search chains.slot-small
-
-word-requires : tie.Need-word-requires Inv-loop μ-loop
-word-requires c κs = search repeats.repeated-inside
-
-occurrences-requires : tie.Need-occurrences-requires Inv-loop μ-loop
-occurrences-requires c κs = search needs
-
-report-unless-requires : tie.Need-report-unless-requires Inv-loop μ-loop
-report-unless-requires c κs = search repeats.repeated-head
-
-length-at-requires : tie.Need-length-at-requires Inv-loop μ-loop
-length-at-requires c κs = search chains.head-inside
-
-add-at : tie.Need-add-at Inv-loop μ-loop
-add-at c = search chains.next-small
-
-loop-less : tie.Need-loop-less Inv-loop μ-loop
-loop-less c = search chains.next-less
-
-loop-again : tie.Need-loop-again Inv-loop μ-loop
-loop-again c = search repeats.repeats-on
-
-same-length : tie.Need-same-length Inv-loop μ-loop
+same-length : tie.Need-same-length
 same-length c = search needs
 
-returns : tie.Need-returns Inv-loop μ-loop
-returns c = search repeats.repeats-done
+returns : tie.Need-returns
+returns c = search needs
+
+count-names-requires : tie.Need-count-names-requires
+count-names-requires c κs = search needs
+
+slice-aggregate-report-repeats-2 : tie.Need-slice-aggregate-report-repeats-2
+slice-aggregate-report-repeats-2 c = sym (c .before .count-names .ensures .1)
+
+report-repeats-requires-2 : tie.Need-report-repeats-requires-2
+report-repeats-requires-2 c κs = search needs
+
+same-length-2 : tie.Need-same-length-2
+same-length-2 c = search needs
+
+returns-2 : tie.Need-returns-2
+returns-2 c = search needs
 
 pub check-repeats-spec : {M : Type 1} → statement M
 check-repeats-spec =
     tie.close
     (tie.spec
-    Inv-loop
-    μ-loop
-    loop-holds
-    add-word
-    word-requires
-    occurrences-requires
-    report-unless-requires
-    length-at-requires
-    add-at
-    loop-less
-    loop-again
+    sub-if1
+    slice-aggregate-report-repeats
+    report-repeats-requires
     same-length
-    returns)
+    returns
+    count-names-requires
+    slice-aggregate-report-repeats-2
+    report-repeats-requires-2
+    same-length-2
+    returns-2)

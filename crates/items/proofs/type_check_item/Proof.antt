@@ -22,7 +22,7 @@ sub-convert-node-type : tie.Need-sub-convert-node-type
 sub-convert-node-type c = omega (arith, laws.alias (c .before .before .before .before .before .before .before .before .pre .0) (sym (c .before .before .half .ensures .is) ∙ c .before .match .keys2) .room .deep)
 
 convert-node-type-requires : tie.Need-convert-node-type-requires
-convert-node-type-requires c κs = (laws.alias (c .before .before .before .before .before .before .before .before .before .before .before .pre .0) (sym (c .before .before .before .before .before .half .ensures .is) ∙ c .before .before .before .before .match .keys2) .type, c .before .before .before .before .before .before .before .before .before .before .before .pre .1)
+convert-node-type-requires c κs = (laws.alias (c .before .before .before .before .before .before .before .before .before .before .before .before .pre .0) (sym (c .before .before .before .before .before .before .half .ensures .is) ∙ c .before .before .before .before .before .match .keys2) .type, c .before .before .before .before .before .before .before .before .before .before .before .before .pre .1)
 
 type-check-variable-requires : tie.Need-type-check-variable-requires
 type-check-variable-requires c κs = search needs
@@ -55,7 +55,7 @@ same-length-8 : tie.Need-same-length-8
 same-length-8 c = search needs
 
 returns-2 : tie.Need-returns-2
-returns-2 c = laws.alias-checked (c .before .before .before .before .before .before .before .before .before .before .before .before .before .before .before .before .before .before .before .pre .0) (sym (c .before .before .before .before .before .before .before .before .before .before .before .before .before .half .ensures .is) ∙ c .before .before .before .before .before .before .before .before .before .before .before .before .match .keys2) (c .before .before .before .before .before .before .before .convert-node-type .ensures)
+returns-2 c = laws.alias-checked (c .before .before .before .before .before .before .before .before .before .before .before .before .before .before .before .before .before .before .before .before .pre .0) (sym (c .before .before .before .before .before .before .before .before .before .before .before .before .before .before .half .ensures .is) ∙ c .before .before .before .before .before .before .before .before .before .before .before .before .before .match .keys2) (c .before .before .before .before .before .before .before .convert-node-type .ensures)
 
 same-length-9 : tie.Need-same-length-9
 same-length-9 c = search needs

@@ -11,29 +11,28 @@ use Rattle.items.proofs.type_check_items.Statement.{statement}
 use Rattle.items.proofs.type_check_items.Tie as tie
 
 abbrev Inv-loop : tie.InvT-loop
-Inv-loop s names work₀ from end depth output₀ errors₀ rows₀ at₀ next₀ work output errors rows at next =
-    laws.Checking s names depth end from at (lent work₀ output₀ errors₀ rows₀ next₀) (lent work output errors rows next) × (length errors ≡ length errors₀)
+Inv-loop s names work₀ from end depth output₀ errors₀ rows₀ buckets₀ at₀ next₀ work output errors rows buckets at next = laws.Checking s names depth end from at (lent work₀ output₀ errors₀ rows₀ buckets₀ next₀) (lent work output errors rows buckets next) × (length errors ≡ length errors₀)
 
 abbrev μ-loop : tie.MeasureT-loop
-μ-loop s names work₀ from end depth output₀ errors₀ rows₀ at₀ next₀ work output errors rows at next = end - at
+μ-loop s names work₀ from end depth output₀ errors₀ rows₀ buckets₀ at₀ next₀ work output errors rows buckets at next = end - at
 
 loop-holds : tie.Need-loop-holds Inv-loop μ-loop
 loop-holds c = (laws.checking-start _ _ _ _ (c .before .before .before .before .before .pre .0) (c .before .before .before .before .before .pre .1), refl)
 
 type-check-item-requires : tie.Need-type-check-item-requires Inv-loop μ-loop
-type-check-item-requires c κs = (laws.first-fine _ _ _ _ (c .before .before .before .before .before .loop .inv .0) (c .before .before .before .before .loop-test .taken), c .before .before .before .before .before .loop .inv .0 .ready)
+type-check-item-requires c κs = (laws.first-fine _ _ _ _ (c .before .before .before .before .before .before .loop .inv .0) (c .before .before .before .before .before .loop-test .taken), c .before .before .before .before .before .before .loop .inv .0 .ready)
 
 length-at-requires : tie.Need-length-at-requires Inv-loop μ-loop
-length-at-requires c κs = let b = laws.first-room _ _ _ _ (c .before .before .before .before .before .before .before .before .before .before .before .before .before .before .loop .inv .0) (c .before .before .before .before .before .before .before .before .before .before .before .before .before .loop-test .taken) in omega (arith, b)
+length-at-requires c κs = let b = laws.first-room _ _ _ _ (c .before .before .before .before .before .before .before .before .before .before .before .before .before .before .before .loop .inv .0) (c .before .before .before .before .before .before .before .before .before .before .before .before .before .before .loop-test .taken) in omega (arith, b)
 
 add-at : tie.Need-add-at Inv-loop μ-loop
-add-at c = let b = laws.first-room _ _ _ _ (c .before .before .before .before .before .before .before .before .before .before .before .before .before .before .before .loop .inv .0) (c .before .before .before .before .before .before .before .before .before .before .before .before .before .before .loop-test .taken) in omega (arith, b, c .length-at .ensures .is)
+add-at c = let b = laws.first-room _ _ _ _ (c .before .before .before .before .before .before .before .before .before .before .before .before .before .before .before .before .loop .inv .0) (c .before .before .before .before .before .before .before .before .before .before .before .before .before .before .before .loop-test .taken) in omega (arith, b, c .length-at .ensures .is)
 
 loop-less : tie.Need-loop-less Inv-loop μ-loop
-loop-less c = let b = laws.first-room _ _ _ _ (c .before .before .before .before .before .before .before .before .before .before .before .before .before .before .before .loop .inv .0) (c .before .before .before .before .before .before .before .before .before .before .before .before .before .before .loop-test .taken) in omega (arith, b, c .length-at .ensures .is)
+loop-less c = let b = laws.first-room _ _ _ _ (c .before .before .before .before .before .before .before .before .before .before .before .before .before .before .before .before .loop .inv .0) (c .before .before .before .before .before .before .before .before .before .before .before .before .before .before .before .loop-test .taken) in omega (arith, b, c .length-at .ensures .is)
 
 loop-again : tie.Need-loop-again Inv-loop μ-loop
-loop-again c = (laws.checking-on _ _ _ _ (c .before .before .before .before .before .before .before .before .before .before .before .before .before .before .before .loop .inv .0) (c .before .before .before .before .before .before .before .before .before .before .before .before .before .before .loop-test .taken) (c .before .before .before .before .before .before .before .before .before .type-check-item .ensures) _ (heads.stops-at _ _ _ (c .length-at .ensures)), c .before .before .before .before .before .before .before .before .before .type-check-item .kept .1 .1 .1 .1 .1 .1 .0 ∙ c .before .before .before .before .before .before .before .before .before .before .before .before .before .before .before .loop .inv .1)
+loop-again c = (laws.checking-on _ _ _ _ (c .before .before .before .before .before .before .before .before .before .before .before .before .before .before .before .before .loop .inv .0) (c .before .before .before .before .before .before .before .before .before .before .before .before .before .before .before .loop-test .taken) (c .before .before .before .before .before .before .before .before .before .type-check-item .ensures) _ (heads.stops-at _ _ _ (c .length-at .ensures)), c .before .before .before .before .before .before .before .before .before .type-check-item .kept .1 .1 .1 .1 .1 .1 .0 ∙ c .before .before .before .before .before .before .before .before .before .before .before .before .before .before .before .before .loop .inv .1)
 
 same-length : tie.Need-same-length Inv-loop μ-loop
 same-length c = search needs

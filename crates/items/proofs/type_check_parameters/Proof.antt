@@ -11,11 +11,10 @@ use Rattle.items.proofs.type_check_parameters.Statement.{statement}
 use Rattle.items.proofs.type_check_parameters.Tie as tie
 
 abbrev Inv-loop : tie.InvT-loop
-Inv-loop s names work₀ from end depth output₀ errors₀ rows₀ at₀ next₀ work output errors rows at next =
-    laws.Entering s names depth from end at (lent work₀ output₀ errors₀ rows₀ next₀) (lent work output errors rows next) × (length errors ≡ length errors₀)
+Inv-loop s names work₀ from end depth output₀ errors₀ rows₀ buckets₀ at₀ next₀ work output errors rows buckets at next = laws.Entering s names depth from end at (lent work₀ output₀ errors₀ rows₀ buckets₀ next₀) (lent work output errors rows buckets next) × (length errors ≡ length errors₀)
 
 abbrev μ-loop : tie.MeasureT-loop
-μ-loop s names work₀ from end depth output₀ errors₀ rows₀ at₀ next₀ work output errors rows at next = end - at
+μ-loop s names work₀ from end depth output₀ errors₀ rows₀ buckets₀ at₀ next₀ work output errors rows buckets at next = end - at
 
 loop-holds : tie.Need-loop-holds Inv-loop μ-loop
 loop-holds c = (laws.entering-start _ _ _ _ _ (c .before .before .before .before .before .pre .0) (c .before .before .before .before .before .pre .1), refl)
@@ -48,28 +47,28 @@ sub-convert-node-type : tie.Need-sub-convert-node-type Inv-loop μ-loop
 sub-convert-node-type c = omega (arith, laws.parameter _ _ _ _ _ (c .before .before .before .before .loop .inv .0) (c .before .before .before .loop-test .taken) (c .before .before .half .ensures) (c .before .if1 .left) .room .deep)
 
 convert-node-type-requires : tie.Need-convert-node-type-requires Inv-loop μ-loop
-convert-node-type-requires c κs = (laws.parameter _ _ _ _ _ (c .before .before .before .before .before .before .before .loop .inv .0) (c .before .before .before .before .before .before .loop-test .taken) (c .before .before .before .before .before .half .ensures) (c .before .before .before .before .if1 .left) .type, c .before .before .before .before .before .before .before .loop .inv .0 .ready)
+convert-node-type-requires c κs = (laws.parameter _ _ _ _ _ (c .before .before .before .before .before .before .before .before .loop .inv .0) (c .before .before .before .before .before .before .before .loop-test .taken) (c .before .before .before .before .before .before .half .ensures) (c .before .before .before .before .before .if1 .left) .type, c .before .before .before .before .before .before .before .before .loop .inv .0 .ready)
 
 add-word : tie.Need-add-word Inv-loop μ-loop
-add-word c = let p = laws.parameter _ _ _ _ _ (c .before .before .before .before .before .before .before .before .before .before .before .before .before .before .loop .inv .0) (c .before .before .before .before .before .before .before .before .before .before .before .before .before .loop-test .taken) (c .before .before .before .before .before .before .before .before .before .before .before .before .half .ensures) (c .before .before .before .before .before .before .before .before .before .before .before .if1 .left) in omega (arith, p .room .head, p .room .ends, p .room .few)
+add-word c = let p = laws.parameter _ _ _ _ _ (c .before .before .before .before .before .before .before .before .before .before .before .before .before .before .before .loop .inv .0) (c .before .before .before .before .before .before .before .before .before .before .before .before .before .before .loop-test .taken) (c .before .before .before .before .before .before .before .before .before .before .before .before .before .half .ensures) (c .before .before .before .before .before .before .before .before .before .before .before .before .if1 .left) in omega (arith, p .room .head, p .room .ends, p .room .few)
 
 word-requires : tie.Need-word-requires Inv-loop μ-loop
-word-requires c κs = let p = laws.parameter _ _ _ _ _ (c .before .before .before .before .before .before .before .before .before .before .before .before .before .before .loop .inv .0) (c .before .before .before .before .before .before .before .before .before .before .before .before .before .loop-test .taken) (c .before .before .before .before .before .before .before .before .before .before .before .before .half .ensures) (c .before .before .before .before .before .before .before .before .before .before .before .if1 .left) in omega (arith, p .room .head, p .room .ends)
+word-requires c κs = let p = laws.parameter _ _ _ _ _ (c .before .before .before .before .before .before .before .before .before .before .before .before .before .before .before .loop .inv .0) (c .before .before .before .before .before .before .before .before .before .before .before .before .before .before .loop-test .taken) (c .before .before .before .before .before .before .before .before .before .before .before .before .before .half .ensures) (c .before .before .before .before .before .before .before .before .before .before .before .before .if1 .left) in omega (arith, p .room .head, p .room .ends)
 
 set-word-requires : tie.Need-set-word-requires Inv-loop μ-loop
-set-word-requires c κs = omega (arith, laws.entering-room _ _ _ _ _ (c .before .before .before .before .before .before .before .before .before .before .before .before .before .before .before .before .loop .inv .0) (laws.parameter _ _ _ _ _ (c .before .before .before .before .before .before .before .before .before .before .before .before .before .before .before .before .loop .inv .0) (c .before .before .before .before .before .before .before .before .before .before .before .before .before .before .before .loop-test .taken) (c .before .before .before .before .before .before .before .before .before .before .before .before .before .before .half .ensures) (c .before .before .before .before .before .before .before .before .before .before .before .before .before .if1 .left)), c .before .word .ensures .is)
+set-word-requires c κs = omega (arith, laws.entering-room _ _ _ _ _ (c .before .before .before .before .before .before .before .before .before .before .before .before .before .before .before .before .before .loop .inv .0) (laws.parameter _ _ _ _ _ (c .before .before .before .before .before .before .before .before .before .before .before .before .before .before .before .before .before .loop .inv .0) (c .before .before .before .before .before .before .before .before .before .before .before .before .before .before .before .before .loop-test .taken) (c .before .before .before .before .before .before .before .before .before .before .before .before .before .before .before .half .ensures) (c .before .before .before .before .before .before .before .before .before .before .before .before .before .before .if1 .left)), c .before .word .ensures .is)
 
 length-at-requires : tie.Need-length-at-requires Inv-loop μ-loop
-length-at-requires c κs = let p = laws.parameter _ _ _ _ _ (c .before .before .before .before .before .before .before .before .before .before .before .before .before .before .before .before .before .before .before .before .loop .inv .0) (c .before .before .before .before .before .before .before .before .before .before .before .before .before .before .before .before .before .before .before .loop-test .taken) (c .before .before .before .before .before .before .before .before .before .before .before .before .before .before .before .before .before .before .half .ensures) (c .before .before .before .before .before .before .before .before .before .before .before .before .before .before .before .before .before .if1 .left) in omega (arith, p .room .head, p .room .ends)
+length-at-requires c κs = let p = laws.parameter _ _ _ _ _ (c .before .before .before .before .before .before .before .before .before .before .before .before .before .before .before .before .before .before .before .before .before .loop .inv .0) (c .before .before .before .before .before .before .before .before .before .before .before .before .before .before .before .before .before .before .before .before .loop-test .taken) (c .before .before .before .before .before .before .before .before .before .before .before .before .before .before .before .before .before .before .before .half .ensures) (c .before .before .before .before .before .before .before .before .before .before .before .before .before .before .before .before .before .before .if1 .left) in omega (arith, p .room .head, p .room .ends)
 
 add-at : tie.Need-add-at Inv-loop μ-loop
-add-at c = let p = laws.parameter _ _ _ _ _ (c .before .before .before .before .before .before .before .before .before .before .before .before .before .before .before .before .before .before .before .before .before .loop .inv .0) (c .before .before .before .before .before .before .before .before .before .before .before .before .before .before .before .before .before .before .before .before .loop-test .taken) (c .before .before .before .before .before .before .before .before .before .before .before .before .before .before .before .before .before .before .before .half .ensures) (c .before .before .before .before .before .before .before .before .before .before .before .before .before .before .before .before .before .before .if1 .left) in omega (arith, p .room .ends, p .room .few, c .length-at .ensures .is)
+add-at c = let p = laws.parameter _ _ _ _ _ (c .before .before .before .before .before .before .before .before .before .before .before .before .before .before .before .before .before .before .before .before .before .before .loop .inv .0) (c .before .before .before .before .before .before .before .before .before .before .before .before .before .before .before .before .before .before .before .before .before .loop-test .taken) (c .before .before .before .before .before .before .before .before .before .before .before .before .before .before .before .before .before .before .before .before .half .ensures) (c .before .before .before .before .before .before .before .before .before .before .before .before .before .before .before .before .before .before .before .if1 .left) in omega (arith, p .room .ends, p .room .few, c .length-at .ensures .is)
 
 loop-less : tie.Need-loop-less Inv-loop μ-loop
-loop-less c = let p = laws.parameter _ _ _ _ _ (c .before .before .before .before .before .before .before .before .before .before .before .before .before .before .before .before .before .before .before .before .before .loop .inv .0) (c .before .before .before .before .before .before .before .before .before .before .before .before .before .before .before .before .before .before .before .before .loop-test .taken) (c .before .before .before .before .before .before .before .before .before .before .before .before .before .before .before .before .before .before .before .half .ensures) (c .before .before .before .before .before .before .before .before .before .before .before .before .before .before .before .before .before .before .if1 .left) in omega (arith, p .room .head, c .before .before .before .before .before .before .before .before .before .before .before .before .before .before .before .before .before .before .before .before .loop-test .taken, c .length-at .ensures .is)
+loop-less c = let p = laws.parameter _ _ _ _ _ (c .before .before .before .before .before .before .before .before .before .before .before .before .before .before .before .before .before .before .before .before .before .before .loop .inv .0) (c .before .before .before .before .before .before .before .before .before .before .before .before .before .before .before .before .before .before .before .before .before .loop-test .taken) (c .before .before .before .before .before .before .before .before .before .before .before .before .before .before .before .before .before .before .before .before .half .ensures) (c .before .before .before .before .before .before .before .before .before .before .before .before .before .before .before .before .before .before .before .if1 .left) in omega (arith, p .room .head, c .before .before .before .before .before .before .before .before .before .before .before .before .before .before .before .before .before .before .before .before .before .loop-test .taken, c .length-at .ensures .is)
 
 loop-again : tie.Need-loop-again Inv-loop μ-loop
-loop-again c = (laws.entering-on _ _ _ _ _ (c .before .before .before .before .before .before .before .before .before .before .before .before .before .before .before .before .before .before .before .before .before .loop .inv .0) (laws.parameter _ _ _ _ _ (c .before .before .before .before .before .before .before .before .before .before .before .before .before .before .before .before .before .before .before .before .before .loop .inv .0) (c .before .before .before .before .before .before .before .before .before .before .before .before .before .before .before .before .before .before .before .before .loop-test .taken) (c .before .before .before .before .before .before .before .before .before .before .before .before .before .before .before .before .before .before .before .half .ensures) (c .before .before .before .before .before .before .before .before .before .before .before .before .before .before .before .before .before .before .if1 .left)) (c .before .before .before .before .before .before .before .before .before .before .before .before .before .convert-node-type .ensures) _ (c .before .before .before .before .before .before .word .ensures) _ (c .before .before .before .before .set-word .ensures) _ (heads.stops-at _ _ _ (c .length-at .ensures)), omega (arith, c .before .before .before .before .before .before .before .before .before .before .before .before .before .convert-node-type .kept .1 .1 .1 .1 .1 .1 .0, c .before .before .before .before .before .before .before .before .before .before .before .before .before .before .before .before .before .before .before .before .before .loop .inv .1))
+loop-again c = (laws.entering-on _ _ _ _ _ (c .before .before .before .before .before .before .before .before .before .before .before .before .before .before .before .before .before .before .before .before .before .before .loop .inv .0) (laws.parameter _ _ _ _ _ (c .before .before .before .before .before .before .before .before .before .before .before .before .before .before .before .before .before .before .before .before .before .before .loop .inv .0) (c .before .before .before .before .before .before .before .before .before .before .before .before .before .before .before .before .before .before .before .before .before .loop-test .taken) (c .before .before .before .before .before .before .before .before .before .before .before .before .before .before .before .before .before .before .before .before .half .ensures) (c .before .before .before .before .before .before .before .before .before .before .before .before .before .before .before .before .before .before .before .if1 .left)) (c .before .before .before .before .before .before .before .before .before .before .before .before .before .convert-node-type .ensures) _ (c .before .before .before .before .before .before .word .ensures) _ (c .before .before .before .before .set-word .ensures) _ (heads.stops-at _ _ _ (c .length-at .ensures)), omega (arith, c .before .before .before .before .before .before .before .before .before .before .before .before .before .convert-node-type .kept .1 .1 .1 .1 .1 .1 .0, c .before .before .before .before .before .before .before .before .before .before .before .before .before .before .before .before .before .before .before .before .before .before .loop .inv .1))
 
 same-length-5 : tie.Need-same-length-5 Inv-loop μ-loop
 same-length-5 c = search needs

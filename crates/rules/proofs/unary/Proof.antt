@@ -26,7 +26,7 @@ same-length-2 : tie.Need-same-length-2
 same-length-2 c = search needs
 
 returns : tie.Need-returns
-returns c = search exits.unary-as
+returns c = search exits.pointer-as
 
 same-length-3 : tie.Need-same-length-3
 same-length-3 c = search needs

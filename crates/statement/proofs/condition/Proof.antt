@@ -5,10 +5,6 @@ use Rattle.statement.proofs.Own as laws
 use borrow.Author.Needs.{needs}
 use Rattle.statement.proofs.condition.Statement.{statement}
 use Rattle.statement.proofs.condition.Tie as tie
-use Rattle.statement.proofs.condition.Reads as reads
-use Rattle.statement.proofs.condition.Lts as lts
-use Rattle.expression.proofs.type_check_expression.Reads as type-check-expression-reads
-use Rattle.rules.proofs.check_types_are_assignable.Reads as check-types-are-assignable-reads
 
 add-type-check-expression : tie.Need-add-type-check-expression
 add-type-check-expression c = search needs
@@ -20,7 +16,7 @@ type-check-expression-requires : tie.Need-type-check-expression-requires
 type-check-expression-requires c κs = search needs
 
 check-types-are-assignable-requires : tie.Need-check-types-are-assignable-requires
-check-types-are-assignable-requires c κs = (omega (arith, heads.slot-room (c .before .before .before .before .before .before .before .before .before .before .before .before .before .before .before .before .before .pre .0)), laws.condition-types _ _ _ (c .before .before .before .before .before .before .before .before .type-check-expression .ensures))
+check-types-are-assignable-requires c κs = (omega (arith, heads.slot-room (c .before .before .before .before .before .before .before .before .before .before .before .before .before .before .before .before .before .before .pre .0)), laws.condition-types _ _ _ (c .before .before .before .before .before .before .before .before .type-check-expression .ensures))
 
 same-length : tie.Need-same-length
 same-length c = search needs

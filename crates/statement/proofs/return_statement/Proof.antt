@@ -6,12 +6,6 @@ use Rattle.divergence.proofs.Walk.{bounds}
 use borrow.Author.Needs.{needs}
 use Rattle.statement.proofs.return_statement.Statement.{statement}
 use Rattle.statement.proofs.return_statement.Tie as tie
-use Rattle.statement.proofs.return_statement.Reads as reads
-use Rattle.statement.proofs.return_statement.Lts as lts
-use Rattle.expression.proofs.type_check_expression.Reads as type-check-expression-reads
-use Rattle.node.proofs.bytes.length_at.Reads as length-at-reads
-use Rattle.rules.proofs.check_types_are_assignable.Reads as check-types-are-assignable-reads
-use Rattle.statement.proofs.return_without_value.Reads as return-without-value-reads
 
 length-at-requires : tie.Need-length-at-requires
 length-at-requires c κs = omega (arith, bounds _ _ _ _ _ (c .before .before .before .before .before .pre .0 .0) .head, bounds _ _ _ _ _ (c .before .before .before .before .before .pre .0 .0) .stop)
@@ -35,10 +29,10 @@ sub-type-check-expression : tie.Need-sub-type-check-expression
 sub-type-check-expression c = omega (arith, bounds _ _ _ _ _ (c .before .before .before .before .before .before .before .pre .0 .0) .deep)
 
 type-check-expression-requires : tie.Need-type-check-expression-requires
-type-check-expression-requires c κs = (laws.returned-fine (c .before .before .before .before .before .before .before .before .before .before .pre .0 .0) (c .before .before .before .before .before .before .before .before .before .before .pre .0 .1) (c .before .before .before .before .length-at .ensures) (c .before .before .before .if1 .left), c .before .before .before .before .before .before .before .before .before .before .pre .1 .0)
+type-check-expression-requires c κs = (laws.returned-fine (c .before .before .before .before .before .before .before .before .before .before .before .pre .0 .0) (c .before .before .before .before .before .before .before .before .before .before .before .pre .0 .1) (c .before .before .before .before .before .length-at .ensures) (c .before .before .before .before .if1 .left), c .before .before .before .before .before .before .before .before .before .before .before .pre .1 .0)
 
 check-types-are-assignable-requires : tie.Need-check-types-are-assignable-requires
-check-types-are-assignable-requires c κs = (omega (arith, bounds _ _ _ _ _ (c .before .before .before .before .before .before .before .before .before .before .before .before .before .before .before .before .before .before .before .pre .0 .0) .head, bounds _ _ _ _ _ (c .before .before .before .before .before .before .before .before .before .before .before .before .before .before .before .before .before .before .before .pre .0 .0) .stop), two-types (c .before .before .before .before .before .before .before .before .type-check-expression .ensures .walked .walked .grew .good) (type-later (c .before .before .before .before .before .before .before .before .type-check-expression .ensures .walked .walked .grew) (c .before .before .before .before .before .before .before .before .before .before .before .before .before .before .before .before .before .before .before .pre .1 .1 .type)) (c .before .before .before .before .before .before .before .before .type-check-expression .ensures .walked .is))
+check-types-are-assignable-requires c κs = (omega (arith, bounds _ _ _ _ _ (c .before .before .before .before .before .before .before .before .before .before .before .before .before .before .before .before .before .before .before .before .pre .0 .0) .head, bounds _ _ _ _ _ (c .before .before .before .before .before .before .before .before .before .before .before .before .before .before .before .before .before .before .before .before .pre .0 .0) .stop), two-types (c .before .before .before .before .before .before .before .before .type-check-expression .ensures .walked .walked .grew .good) (type-later (c .before .before .before .before .before .before .before .before .type-check-expression .ensures .walked .walked .grew) (c .before .before .before .before .before .before .before .before .before .before .before .before .before .before .before .before .before .before .before .before .pre .1 .1 .type)) (c .before .before .before .before .before .before .before .before .type-check-expression .ensures .walked .is))
 
 same-length-3 : tie.Need-same-length-3
 same-length-3 c = search needs
@@ -50,7 +44,7 @@ same-length-5 : tie.Need-same-length-5
 same-length-5 c = search needs
 
 returns-2 : tie.Need-returns-2
-returns-2 c = laws.return-value-checked (c .before .before .before .before .before .before .before .before .before .before .before .before .before .before .before .before .before .before .before .before .before .before .pre .0 .0) (c .before .before .before .before .before .before .before .before .before .before .before .before .before .before .before .before .before .before .before .before .before .before .pre .0 .1) (c .before .before .before .before .before .before .before .before .before .before .before .before .before .before .before .before .length-at .ensures) (c .before .before .before .before .before .before .before .before .before .before .before .before .before .before .before .if1 .left) (c .before .before .before .before .before .before .before .before .before .before .before .type-check-expression .ensures) (c .before .before .check-types-are-assignable .ensures)
+returns-2 c = laws.return-value-checked (c .before .before .before .before .before .before .before .before .before .before .before .before .before .before .before .before .before .before .before .before .before .before .before .pre .0 .0) (c .before .before .before .before .before .before .before .before .before .before .before .before .before .before .before .before .before .before .before .before .before .before .before .pre .0 .1) (c .before .before .before .before .before .before .before .before .before .before .before .before .before .before .before .before .before .length-at .ensures) (c .before .before .before .before .before .before .before .before .before .before .before .before .before .before .before .before .if1 .left) (c .before .before .before .before .before .before .before .before .before .before .before .type-check-expression .ensures) (c .before .before .check-types-are-assignable .ensures)
 
 pub return-statement-spec : {M : Type 1} → statement M
 return-statement-spec =

@@ -1,8 +1,8 @@
 -- `types::intern` meets its contract. Each exit is a law of what is known after the search.
-use Rattle.types.proofs.Requests as requests
-use native.Mathlib.Omega.{arith}
-use mathlib.Core.Logic.{inl, inr}
 use denote.Ref.{now}
+use mathlib.Core.Logic.{inl, inr}
+use native.Mathlib.Omega.{arith}
+use Rattle.types.proofs.Requests as requests
 use borrow.Author.Needs.{needs}
 use Rattle.types.proofs.intern.Statement.{statement}
 use Rattle.types.proofs.intern.Tie as tie
@@ -14,19 +14,18 @@ highest-part-requires : tie.Need-highest-part-requires
 highest-part-requires c κs = search needs
 
 find-requires : tie.Need-find-requires
-find-requires c κs = (requests.intern-from _ _ (c .before .before .before .before .args .row) (c .before .before .before .before .pre .1) _ (c .before .before .words-of .ensures) _ (c .before .highest-part .ensures), search needs)
+find-requires c κs = (c .before .before .before .before .before .pre .1, (requests.intern-from _ _ (c .before .before .before .before .before .args .row) (c .before .before .before .before .before .pre .0 .1) _ (c .before .before .before .words-of .ensures) _ (c .before .before .highest-part .ensures), search needs))
 
 -- what is known after the search
 sought : (c : tie.After-find)
-    → requests.Sought (now (c .before .before .before .before .before .args .rows)) (c .before .before .before .before .before .args .count) (c .before .before .before .before .before .args .row)
-    (c .before .before .before .words-of .result) (c .before .before .highest-part .result) (c .find .result)
+    → requests.Sought (now (c .before .before .before .before .before .before .args .rows)) (c .before .before .before .before .before .before .args .count) (c .before .before .before .before .before .before .args .row) (c .before .before .before .before .words-of .result) (c .before .before .before .highest-part .result) (c .find .result)
 sought c =
-    let start = c .before .before .before .before .before in
+    let start = c .before .before .before .before .before .before in
     record {
-      table = start .pre .0;
-      parts = start .pre .1;
-      words = c .before .before .before .words-of .ensures;
-      highest = c .before .before .highest-part .ensures;
+      table = start .pre .0 .0;
+      parts = start .pre .0 .1;
+      words = c .before .before .before .before .words-of .ensures;
+      highest = c .before .before .before .highest-part .ensures;
       found = c .find .ensures;
     }
 
@@ -34,7 +33,7 @@ same-length : tie.Need-same-length
 same-length c = search needs
 
 returns : tie.Need-returns
-returns c = requests.intern-found (sought (c .before)) (c .if1 .taken)
+returns c = (requests.intern-found (sought (c .before)) (c .if1 .taken), c .before .before .before .before .before .before .before .pre .1)
 
 add-if2 : tie.Need-add-if2
 add-if2 c = search needs
@@ -46,30 +45,40 @@ same-length-2 : tie.Need-same-length-2
 same-length-2 c = search needs
 
 returns-2 : tie.Need-returns-2
-returns-2 c = requests.intern-full (sought (c .before .before)) (c .before .if1 .left) (inl (c .if2 .taken))
+returns-2 c = (requests.intern-full (sought (c .before .before)) (c .before .if1 .left) (inl (c .if2 .taken)), c .before .before .before .before .before .before .before .before .pre .1)
 
 same-length-3 : tie.Need-same-length-3
 same-length-3 c = search needs
 
 returns-3 : tie.Need-returns-3
-returns-3 c = requests.intern-full (sought (c .before .before .before)) (c .before .before .if1 .left) (inr (omega arith))
+returns-3 c = (requests.intern-full (sought (c .before .before .before)) (c .before .before .if1 .left) (inr (omega arith)), c .before .before .before .before .before .before .before .before .before .pre .1)
 
 store-requires : tie.Need-store-requires
 store-requires c κs = search needs
 
-add-t17 : tie.Need-add-t17
-add-t17 c = search needs
+add-link : tie.Need-add-link
+add-link c = search needs
 
-add-t18 : tie.Need-add-t18
-add-t18 c = search needs
+link-requires : tie.Need-link-requires
+link-requires c κs = search needs
+
+add-t20 : tie.Need-add-t20
+add-t20 c = search needs
+
+add-t21 : tie.Need-add-t21
+add-t21 c = search needs
 
 same-length-4 : tie.Need-same-length-4
 same-length-4 c = search needs
 
 returns-4 : tie.Need-returns-4
 returns-4 c =
-    requests.intern-new (sought (c .before .before .before .before .before .before .before)) (c .before .before .before .before .before .before .if1 .left) (search needs)
-    (c .before .before .before .before .before .if2 .left) (c .before .before .store .ensures)
+    let after = c .before .before .before .before .before .before .before .before .before in
+    let room = c .before .before .before .before .before .before .before .if2 .left in
+    let new = c .before .before .before .before .store .ensures in (
+      requests.intern-new (sought after) (c .before .before .before .before .before .before .before .before .if1 .left) (search needs) room new,
+      requests.intern-indexed (sought after) room new (after .before .before .before .before .before .before .pre .1) (c .link .ensures),
+    )
 
 pub intern-spec : {M : Type 1} → statement M
 intern-spec =
@@ -87,7 +96,9 @@ intern-spec =
     same-length-3
     returns-3
     store-requires
-    add-t17
-    add-t18
+    add-link
+    link-requires
+    add-t20
+    add-t21
     same-length-4
     returns-4)

@@ -1,0 +1,54 @@
+-- An index of rows: for each bucket its highest row, and for each row the one before it in its bucket.
+use Prim.Native.Nat.{ℕ, _+_, _-_, _*_, _/_, _%_, _≤_, _<_}
+use mathlib.Core.Path.{_≡_}
+use mathlib.Core.Bool.{cond}
+use mathlib.Core.List.{List}
+use mathlib.Core.Logic.{_⊎_}
+use lib.Dec.{leb}
+use lib.ListN.{length, getD, set}
+use Rattle.rows.specs.Row.{rowAt}
+use Rattle.rows.specs.declared.Words.{Words}
+
+-- How many buckets there are: the index begins with a word for each
+abbrev pub heads : ℕ
+heads = 512
+
+-- How many rows have a place in the index: the words that follow, one for each row from the first
+abbrev pub places : ℕ
+places = 3584
+
+-- How many words an index has
+abbrev pub indexLength : ℕ
+indexLength = heads + places
+
+-- The bucket of a row, by its words
+unfoldable pub bucketOf : Words → ℕ
+bucketOf r = (r .kind * 268435399 + r .first * 165580141 + r .second * 228826127 + r .name * 141422323) / 262144 % heads
+
+-- v is the highest row of the bucket below row n of w, or 0 if there is none
+pub record Highest (w : List ℕ) (bucket n v : ℕ) : Type 0 where
+  pub low : v < n
+  pub own : 1 ≤ v → bucketOf (rowAt w v) ≡ bucket
+  pub top : (i : ℕ) → 1 ≤ i → i < n → bucketOf (rowAt w i) ≡ bucket → i ≤ v
+
+-- b is an index of the first `count` rows of w: the rows up to `last` are in their buckets, all `count` or as many as have a place.
+-- The word of a bucket is its highest row, the word of a row is the one before it in its bucket.
+pub record Indexed (w : List ℕ) (count : ℕ) (b : List ℕ) : Type 0 where
+  pub long : length b ≡ indexLength
+  pub last : ℕ
+  pub few : last ≤ count
+  pub fits : last ≤ places
+  pub all : (last ≡ count) ⊎ (last ≡ places)
+  pub head : (bucket : ℕ) → bucket < heads → Highest w bucket (last + 1) (getD b bucket 0)
+  pub link : (n : ℕ) → 1 ≤ n → n ≤ last → Highest w (bucketOf (rowAt w n)) n (getD b (heads + n - 1) 0)
+
+-- The index b with row n, of the words r, in its bucket; b as it is if row n has no place
+unfoldable pub withRow : List ℕ → (n : ℕ) → Words → List ℕ
+withRow b n r = cond (leb n places) (set (set b (heads + n - 1) (getD b (bucketOf r) 0)) (bucketOf r) n) b
+
+-- n is the number of a row past row m that has the words r, or 0 where none of the rows that have a place is such a row
+pub record Followed (w : List ℕ) (m count : ℕ) (r : Words) (n : ℕ) : Type 0 where
+  pub high : n ≤ count
+  pub past : 1 ≤ n → m < n
+  pub found : 1 ≤ n → rowAt w n ≡ r
+  pub absent : n ≡ 0 → (i : ℕ) → m < i → i ≤ count → i ≤ places → rowAt w i ≡ r → ⊥
