@@ -10,7 +10,7 @@ import os, re, shutil, subprocess, sys
 
 oracle, folder, modules = sys.argv[1], sys.argv[2], sys.argv[3:]
 root = os.path.join(os.path.dirname(os.path.abspath(__file__)), '..')
-below = ['fallible', 'literal', 'rows', 'types', 'validate', 'relations', 'shape', 'node', 'meaning']
+below = ['fallible', 'literal', 'rows', 'lookup', 'types', 'validate', 'relations', 'shape', 'node', 'meaning']
 PER_FILE = 20
 
 

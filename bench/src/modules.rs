@@ -124,7 +124,7 @@ pub fn classes() -> Vec<Class> {
     for size in [1_000, 2_000, 4_000, 8_000, 16_000, 32_000, MOST_BYTES] {
         put(&format!("joined {size}"), (0..4).map(|i| joined(size, 1_000 * i)).collect());
     }
-    let rows: [(&str, fn(usize) -> Vec<u8>, &[usize]); 13] = [
+    let rows: [(&str, fn(usize) -> Vec<u8>, &[usize]); 16] = [
         ("many types", limits::with_rows, &[375, 750, 1_500, 3_000]),
         ("chain of aliases", chain, &[50, 100, 200, 400, 800]),
         ("casts", casts, &[100, 200, 400]),
@@ -135,7 +135,10 @@ pub fn classes() -> Vec<Class> {
         ("deep expressions", nested, &[5, 10, 20, 50]),
         ("doubled structs", doubled, &[3, 6, 9, 12]),
         ("many sizes", sizes, &[125, 250, 500, 1_000]),
+        ("many functions", functions, &[32, 64, 128, 256, 500]),
+        ("many names", further_names, &[350, 700, 1_400, 2_800]),
         ("names of one hash", one_hash, &[200, 400, 800, 1_600]),
+        ("rows of one bucket", one_bucket, &[125, 250, 500, 1_000]),
         ("compound fields", compound, &[100, 200, 400, 800]),
         ("call arguments", arguments, &[100, 200, 400, 700]),
     ];
@@ -167,11 +170,32 @@ fn sizes(count: usize) -> Vec<u8> {
     numbered(0, vec![record(80, &[1], children)])
 }
 
-/// Names of equal length that a sum of the bytes times powers of 31 does not tell apart.
+/// Names that the product's hash of names does not tell apart (crates/node/src/names.rt).
 fn one_hash(count: usize) -> Vec<u8> {
-    let name = |i: usize| (0..11).map(|bit| if i >> bit & 1 == 0 { "Aa" } else { "BB" }).collect::<String>();
-    let names: Vec<String> = (0..count).map(name).collect();
+    let hash = |name: &str| name.bytes().fold(0, |h: u64, byte| (h + u64::from(byte)) * 668_265_263 % (1 << 32)) >> 22;
+    let names: Vec<String> = (0..).map(|i: u32| format!("n{i:07}")).filter(|name| hash(name) == 0).take(count).collect();
     Tree::module(&names, vec![]).to_bytes()
+}
+
+/// Parameters of arrays whose rows the product's hash of rows does not tell apart (crates/lookup/src/lib.rt).
+fn one_bucket(count: usize) -> Vec<u8> {
+    let bucket = |size: &u32| (u64::from(*size) * 228_826_127 + 7 * 268_435_399 + 2 * 165_580_141) / 262_144 % 512;
+    let mut sizes = (0..).filter(|size| bucket(size) == 0);
+    let parameter = |size: u32| record(85, &[1], vec![record(19, &[0, size], vec![record(17, &[0], vec![])])]);
+    let mut children = vec![record(17, &[0], vec![])];
+    children.extend(sizes.by_ref().take(count).map(parameter));
+    numbered(0, vec![record(80, &[1], children)])
+}
+
+/// Empty functions, and two further names for each.
+fn functions(count: usize) -> Vec<u8> {
+    let one = |i: u32| record(80, &[i + 2], vec![record(17, &[0], vec![]), record(64, &[0], vec![])]);
+    numbered(3 * count, (0..count as u32).map(one).collect())
+}
+
+/// A function, and so many further names.
+fn further_names(count: usize) -> Vec<u8> {
+    numbered(count, vec![record(80, &[1], vec![record(17, &[0], vec![]), record(64, &[0], vec![])])])
 }
 
 /// A struct compound with so many fields, each once.
