@@ -19,8 +19,8 @@ const HEADS: usize = 512;
 // How many rows have a place: the rest of the index.
 const PLACES: u32 = 3584;
 
-// How many rows of a bucket are passed before the rows are looked through one after the other: rows that were made to share a bucket cost no
-// more than without an index.
+// How many rows of a bucket are passed before the rows are looked through one after the other: rows that were made to share a bucket cost
+// little more than without an index.
 const STEPS: u32 = 16;
 
 // The bucket of a row.
