@@ -113,7 +113,7 @@ head = head.replace('Rattle.meaning.specs.TypeError.Operand)', 'Operand)').repl
 opened = []
 for crate in below:
     specs = os.path.join(root, 'crates', crate, 'specs')
-    for f in sorted(os.listdir(specs)):
+    for f in sorted(os.listdir(specs)) if os.path.isdir(specs) else []:
         if f.endswith('.antt') and f not in ('Lib.antt', 'BenchSheet.antt', 'JoiningOrder.antt', 'Inner.antt', 'Entry.antt'):
             names = re.findall(r'^unfoldable pub ([^\s:]+) :', open(os.path.join(specs, f)).read(), re.M)
             if names:
