@@ -1,121 +1,92 @@
 // `type_check_compound_assignment`: the slots of a compound's values, and its errors for a target of a type.
+use compound_rules::array_compound;
+use compound_rules::check_repeats;
+use compound_rules::struct_compound;
 use expression::type_check_expression;
 use expression::type_check_expressions;
+use node::bytes::FIELD_END;
+use node::bytes::HEAD_END;
 use node::bytes::length_at;
+use node::fine::Node;
+use node::fine::Nodes;
 use node::fine::enter;
 use node::names::BuiltIns;
 use shape::COMPOUND;
-use state::State;
-ghost use lib.ListN.{length};
+use shape::kinds::ARRAY_COMPOUND;
+use walk::State;
+ghost use Rattle.contract.specs.Moments.{old};
 ghost use Rattle.shape.specs.Shape.{aCompound};
 ghost use Rattle.shape.specs.declared.Holds.the-variants.{CompoundFields};
-ghost use Rattle.node.specs.Fine.{FineRecord, FineList};
-ghost use Rattle.node.specs.Record.{compoundFieldsAt};
+ghost use Rattle.node.specs.Fine.{FineNode, FineNodes};
 ghost use Rattle.relations.specs.Entry.{OneType};
-ghost use Rattle.state.specs.Represents.{lent};
+ghost use Rattle.walk.specs.Moments.{given, before, after};
 ghost use Rattle.convert.specs.Post.{Ready};
-ghost use Rattle.compound.specs.Post.{CarriedFields, CompoundCheckedAt};
+ghost use Rattle.compound.specs.Post.{CarriedFieldNodes, CompoundCheckedNode};
 
-// The kind of an array compound.
-const ARRAY_COMPOUND: u32 = 48;
-
-// Bytes of a compound before its parts, and of a field before its value.
-const PARTS: usize = 16;
-
-const VALUE: usize = 20;
-
-// The values of the fields from `from` to `end`.
+// The values of some fields.
 fn type_check_fields(
     s: &[u8],
     names: BuiltIns,
     work: &[u32],
-    from: usize,
-    end: usize,
-    depth: usize,
+    list: Nodes,
     output: &mut [u8],
     errors: &mut [u32],
     rows: &mut [u32],
-    buckets: &mut [u16; lookup::LENGTH],
+    index: &mut [u16; row_index::LENGTH],
     state: State,
 ) -> State
-    requires { ⌜ FineList (now s) depth from end CompoundFields ⌝ }
-    requires { ⌜ Ready (now s) (lent (now work) (now output) (now errors) (now rows) (now buckets) state) ⌝ }
-    ensures { λ r. ⌜ CarriedFields (now (s .entry)) names (compoundFieldsAt (now (s .entry)) depth from end) from end (lent (now (work .entry)) (now (output .entry)) (now (errors .entry)) (now (rows .entry)) (now (buckets .entry)) state) (lent (now (work .entry)) (now (output .exit)) (now (errors .exit)) (now (rows .exit)) (now (buckets .exit)) r) ⌝ }
+    requires { ⌜ FineNodes (now s) list CompoundFields ⌝ }
+    requires { ⌜ Ready (now s) (given work output errors rows index state) ⌝ }
+    ensures { λ r. ⌜ CarriedFieldNodes (old s) names list
+        (before work output errors rows index state)
+        (after work output errors rows index r) ⌝ }
 {
-    let mut at = from;
+    let end = list.end;
+    let mut at = list.from;
     let mut next = state;
     while at < end {
-        let place = at + VALUE;
-        let typed = type_check_expression(
-            s,
-            names,
-            work,
-            place,
-            depth - 1,
-            output,
-            errors,
-            rows,
-            buckets,
-            next,
-        );
+        let place = at + FIELD_END;
+        let depth = list.depth - 1;
+        let value = Node { at: place, depth };
+        let typed = type_check_expression(s, names, work, value, output, errors, rows, index, next);
         next = typed.state;
         at = at + length_at(s, at);
     }
     next
 }
 
-// The C record at `at`, with so many levels left, for a target of the type row `target`.
+// A C record, for a target of the type row `ty`.
 pub fn type_check_compound_assignment(
     s: &[u8],
     names: BuiltIns,
     work: &[u32],
-    at: usize,
-    depth: usize,
-    target: u32,
+    node: Node,
+    ty: u32,
     output: &mut [u8],
     errors: &mut [u32],
     rows: &mut [u32],
-    buckets: &mut [u16; lookup::LENGTH],
+    index: &mut [u16; row_index::LENGTH],
     state: State,
 ) -> State
-    requires { ⌜ FineRecord (now s) depth at (length (now s)) aCompound ⌝ }
-    requires { ⌜ Ready (now s) (lent (now work) (now output) (now errors) (now rows) (now buckets) state) × OneType (now rows) (state .rows) target ⌝ }
-    ensures { λ r. ⌜ CompoundCheckedAt (now (s .entry)) names depth at target (lent (now (work .entry)) (now (output .entry)) (now (errors .entry)) (now (rows .entry)) (now (buckets .entry)) state) (lent (now (work .entry)) (now (output .exit)) (now (errors .exit)) (now (rows .exit)) (now (buckets .exit)) r) ⌝ }
+    requires { ⌜ FineNode (now s) node aCompound ⌝ }
+    requires { ⌜ Ready (now s) (given work output errors rows index state) ⌝ }
+    requires { ⌜ OneType (now rows) (state .rows) ty ⌝ }
+    ensures { λ r. ⌜ CompoundCheckedNode (old s) names node ty
+        (before work output errors rows index state)
+        (after work output errors rows index r) ⌝ }
 {
-    let head = enter(s, at, s.len(), depth, COMPOUND);
+    let at = node.at;
+    let head = enter(s, node, COMPOUND);
     let kind = head.kind;
-    let start = at + PARTS;
-    let stop = at + length_at(s, at);
-    let inner = depth - 1;
+    let from = at + HEAD_END;
+    let end = at + length_at(s, at);
+    let depth = node.depth - 1;
+    let list = Nodes { from, end, depth };
     if kind == ARRAY_COMPOUND {
-        let next = type_check_expressions(
-            s,
-            names,
-            work,
-            start,
-            stop,
-            inner,
-            output,
-            errors,
-            rows,
-            buckets,
-            state,
-        );
-        return lists::array_compound(s, at, target, start, stop, output, errors, rows, next);
+        let next = type_check_expressions(s, names, work, list, output, errors, rows, index, state);
+        return array_compound(s, at, ty, from, end, output, errors, rows, next);
     }
-    let next = type_check_fields(
-        s,
-        names,
-        work,
-        start,
-        stop,
-        inner,
-        output,
-        errors,
-        rows,
-        buckets,
-        state,
-    );
-    let last = fields::struct_compound(s, at, target, start, stop, output, errors, rows, next);
-    fields::check_repeats(s, start, stop, errors, last)
+    let next = type_check_fields(s, names, work, list, output, errors, rows, index, state);
+    let last = struct_compound(s, at, ty, from, end, output, errors, rows, next);
+    check_repeats(s, from, end, errors, last)
 }

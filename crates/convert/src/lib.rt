@@ -1,41 +1,45 @@
 // `convert_node_type`: type records to type rows.
 use fallible::Error;
 use fallible::kinds::UNKNOWN_TYPE;
+use node::bytes::COLUMN;
+use node::bytes::FIELD_END;
+use node::bytes::FIELDS_END;
+use node::bytes::FILE;
+use node::bytes::HEAD_END;
+use node::bytes::KIND;
+use node::bytes::LINE;
 use node::bytes::half;
 use node::bytes::length_at;
 use node::bytes::word;
+use node::fine::Node;
+use node::fine::Nodes;
 use node::names::BuiltIns;
-use state::State;
-use state::Typed;
+use shape::kinds::ARRAY_TYPE;
+use shape::kinds::NAMED_TYPE;
+use shape::kinds::POINTER_TYPE;
+use shape::kinds::VOID_TYPE;
 use types::Row;
+use walk::State;
+use walk::Typed;
 ghost use mathlib.Core.Path.{_≡_};
 ghost use Prim.Native.Nat.{_+_, _*_, _<_, _≤_};
 ghost use lib.ListN.{length};
-ghost use Rattle.lookup.specs.Buckets.{Indexed};
+ghost use Rattle.contract.specs.Moments.{old, final};
+ghost use Rattle.row_index.specs.Index.{Indexed};
 ghost use Rattle.types.specs.Table.{Table};
 ghost use Rattle.types.specs.Post.{PartsOk};
+ghost use Rattle.shape.specs.Kinds as kinds;
 ghost use Rattle.shape.specs.Shape.{aType};
 ghost use Rattle.shape.specs.declared.Holds.the-variants.{Fields};
-ghost use Rattle.node.specs.Bytes.{wordAt};
+ghost use Rattle.node.specs.Bytes.{wordAt, headEnd, fieldEnd, fieldsEnd};
 ghost use Rattle.node.specs.Names.{nameCount};
 ghost use Rattle.node.specs.Layout.{kindAt};
-ghost use Rattle.node.specs.Fine.{FineRecord, FineList};
+ghost use Rattle.node.specs.Fine.{FineNode, FineNodes};
 ghost use Rattle.meaning.specs.Promise.{workWidth};
-ghost use Rattle.state.specs.Words.{slotEnd};
-ghost use Rattle.state.specs.Represents.{lent};
-ghost use Rattle.convert.specs.Post.{Ready, ConvertedAt, FieldsConvertedAt, Named, settled, RowSettled, Primitive, orElseRow, errorFor, TypeOpened, FieldOpened};
-
-// The kinds of T records; a struct has the last.
-const NAME: u32 = 16;
-
-const VOID: u32 = 17;
-
-const POINTER: u32 = 18;
-
-const ARRAY: u32 = 19;
-
-// The row of String; that of another built-in type has the number of its kind.
-const STRING: u32 = 7;
+ghost use Rattle.walk.specs.Words.{slotEnd};
+ghost use Rattle.walk.specs.Moments.{given, before, after};
+ghost use Rattle.convert.specs.Post.{Ready, ConvertedNode, FieldsConverted, Named, settled, RowSettled};
+ghost use Rattle.convert.specs.Post.{Primitive, orElseRow, errorFor, TypeOpened, FieldOpened};
 
 // A pass of the check: the numbers of the built-in names, and whether it fills the slots, as pass 2 does.
 pub struct Pass {
@@ -51,14 +55,14 @@ pub struct FieldHead {
 
 // An error at the record at `at`.
 pub fn error_at(s: &[u8], at: usize, kind: u32, first: u32, second: u32, third: u32) -> Error
-    requires { ⌜ at + 16 ≤ length (now s) ⌝ }
-    ensures { λ r. ⌜ r ≡ errorFor (now (s .entry)) at kind first second third ⌝ }
+    requires { ⌜ headEnd at ≤ length (now s) ⌝ }
+    ensures { λ r. ⌜ r ≡ errorFor (old s) at kind first second third ⌝ }
 {
     Error {
         kind,
-        file: half(s, at + 6),
-        line: word(s, at + 8),
-        column: word(s, at + 12),
+        file: half(s, at + FILE),
+        line: word(s, at + LINE),
+        column: word(s, at + COLUMN),
         first,
         second,
         third,
@@ -79,7 +83,7 @@ pub fn primitive_type(names: BuiltIns, name: u32) -> u32
         return types::BOOL;
     }
     if name == names.string {
-        return STRING;
+        return types::STRING;
     }
     0
 }
@@ -103,13 +107,13 @@ fn named_type(
     errors: &mut [u32],
     state: State,
 ) -> Typed
-    requires { ⌜ at + 24 ≤ length (now s) ⌝ }
-    requires { ⌜ wordAt (now s) (at + 20) < nameCount (now s) ⌝ }
+    requires { ⌜ fieldsEnd at ≤ length (now s) ⌝ }
+    requires { ⌜ wordAt (now s) (fieldEnd at) < nameCount (now s) ⌝ }
     requires { ⌜ workWidth * nameCount (now s) ≤ length (now work) ⌝ }
-    ensures { λ r. ⌜ Named (now (s .entry)) names at (now (work .entry)) (now (errors .entry)) state (now (errors .exit)) r ⌝ }
+    ensures { λ r. ⌜ Named (old s) names at (old work) (old errors) state (final errors) r ⌝ }
 {
-    let name = word(s, at + 20);
-    let alias = state::word_of(work, name, state::ALIAS);
+    let name = word(s, at + FIELD_END);
+    let alias = walk::word_of(work, name, walk::ALIAS);
     let primitive = primitive_type(names, name);
     let found = or_else(alias, primitive);
     if 0 < found {
@@ -118,19 +122,19 @@ fn named_type(
     let error = error_at(s, at, UNKNOWN_TYPE, name, 0, 0);
     Typed {
         ty: types::UNKNOWN,
-        state: state::report(errors, state, error),
+        state: walk::report(errors, state, error),
     }
 }
 
 // Stores a row number in the slot of the record at `at`, if slots are filled.
 fn settle(at: usize, fill: bool, output: &mut [u8], ty: u32)
     requires { ⌜ slotEnd at ≤ length (now output) ⌝ }
-    ensures { λ _. ⌜ now (output .exit) ≡ settled fill (now (output .entry)) at ty ⌝ }
+    ensures { λ _. ⌜ final output ≡ settled fill (old output) at ty ⌝ }
 {
     if !fill {
         return;
     }
-    state::put_slot(output, at, ty);
+    walk::put_slot(output, at, ty);
 }
 
 // Makes the row of the record at `at`, and settles it.
@@ -139,110 +143,79 @@ fn settle_row(
     fill: bool,
     output: &mut [u8],
     rows: &mut [u32],
-    buckets: &mut [u16; lookup::LENGTH],
+    index: &mut [u16; row_index::LENGTH],
     state: State,
     row: Row,
 ) -> Typed
     requires { ⌜ slotEnd at ≤ length (now output) ⌝ }
     requires { ⌜ Table (now rows) (state .rows) × PartsOk (now rows) (state .rows) row ⌝ }
-    requires { ⌜ Indexed (now rows) (state .rows) (now buckets) ⌝ }
-    ensures { λ r. ⌜ RowSettled row at fill (now (output .entry)) (now (rows .entry)) (now (buckets .entry)) state (now (output .exit)) (now (rows .exit)) (now (buckets .exit)) r ⌝ }
+    requires { ⌜ Indexed (now rows) (state .rows) (now index) ⌝ }
+    ensures { λ r. ⌜ RowSettled row at fill
+        (old output) (old rows) (old index) state
+        (final output) (final rows) (final index) r ⌝ }
 {
-    let made = state::make(rows, buckets, state, row);
+    let made = walk::make(rows, index, state, row);
     settle(at, fill, output, made.ty);
     made
 }
 
-// The kind of the T record at `at`.
-fn type_kind(s: &[u8], at: usize, depth: usize) -> u32
-    requires { ⌜ FineRecord (now s) depth at (length (now s)) aType ⌝ }
-    ensures { λ r. ⌜ TypeOpened (now (s .entry)) depth at r ⌝ }
+// The kind of a T record.
+fn type_kind(s: &[u8], node: Node) -> u32
+    requires { ⌜ FineNode (now s) node aType ⌝ }
+    ensures { λ r. ⌜ TypeOpened (old s) (node .depth) (node .at) r ⌝ }
 {
-    half(s, at + 4)
+    half(s, node.at + KIND)
 }
 
-// The head of the field at `from`.
-fn field_head(s: &[u8], from: usize, end: usize, depth: usize) -> FieldHead
-    requires { ⌜ FineList (now s) depth from end Fields ⌝ }
-    requires { ⌜ from < end ⌝ }
-    ensures { λ r. ⌜ FieldOpened (now (s .entry)) depth from end r ⌝ }
+// The head of the first of some fields.
+fn field_head(s: &[u8], fields: Nodes) -> FieldHead
+    requires { ⌜ FineNodes (now s) fields Fields ⌝ }
+    requires { ⌜ fields .from < fields .end ⌝ }
+    ensures { λ r. ⌜ FieldOpened (old s) (fields .depth) (fields .from) (fields .end) r ⌝ }
 {
     FieldHead {
-        name: word(s, from + 16),
-        next: from + length_at(s, from),
+        name: word(s, fields.from + HEAD_END),
+        next: fields.from + length_at(s, fields.from),
     }
 }
 
-// The type row of the T record at `at`, with so many levels left.
-// At most some 3,300 calls of this and of `convert_fields` are open at a time: each has a record of its own, of 20 bytes or more.
+// The type row of a T record. At most some 3,300 calls of this and of `convert_fields` are open at a time: each has a
+// record of its own, of 20 bytes or more.
 pub fn convert_node_type(
     s: &[u8],
     pass: Pass,
     work: &[u32],
-    at: usize,
-    depth: usize,
+    node: Node,
     output: &mut [u8],
     errors: &mut [u32],
     rows: &mut [u32],
-    buckets: &mut [u16; lookup::LENGTH],
+    index: &mut [u16; row_index::LENGTH],
     state: State,
 ) -> Typed
-    requires { ⌜ FineRecord (now s) depth at (length (now s)) aType ⌝ }
-    requires { ⌜ Ready (now s) (lent (now work) (now output) (now errors) (now rows) (now buckets) state) ⌝ }
-    ensures { λ r. ⌜ ConvertedAt (now (s .entry)) pass depth at (lent (now (work .entry)) (now (output .entry)) (now (errors .entry)) (now (rows .entry)) (now (buckets .entry)) state) (lent (now (work .entry)) (now (output .exit)) (now (errors .exit)) (now (rows .exit)) (now (buckets .exit)) (r .state)) (r .ty) ⌝ }
+    requires { ⌜ FineNode (now s) node aType ⌝ }
+    requires { ⌜ Ready (now s) (given work output errors rows index state) ⌝ }
+    ensures { λ r. ⌜ ConvertedNode (old s) pass node
+        (before work output errors rows index state)
+        (after work output errors rows index (r .state)) (r .ty) ⌝ }
 {
-    let kind = type_kind(s, at, depth);
+    let kind = type_kind(s, node);
+    let at = node.at;
     let fill = pass.fill;
     match kind {
-        NAME => {
+        NAMED_TYPE => {
             let names = pass.names;
             let named = named_type(s, names, work, at, errors, state);
             settle(at, fill, output, named.ty);
             named
         }
-        VOID => {
-            settle(at, fill, output, types::VOID);
-            Typed {
-                ty: types::VOID,
-                state,
-            }
+        VOID_TYPE => {
+            let ty = types::VOID;
+            settle(at, fill, output, ty);
+            Typed { ty, state }
         }
-        POINTER => convert_pointer(
-            s,
-            pass,
-            work,
-            at,
-            depth,
-            output,
-            errors,
-            rows,
-            buckets,
-            state,
-        ),
-        ARRAY => convert_array(
-            s,
-            pass,
-            work,
-            at,
-            depth,
-            output,
-            errors,
-            rows,
-            buckets,
-            state,
-        ),
-        _ => convert_struct(
-            s,
-            pass,
-            work,
-            at,
-            depth,
-            output,
-            errors,
-            rows,
-            buckets,
-            state,
-        ),
+        POINTER_TYPE => convert_pointer(s, pass, work, node, output, errors, rows, index, state),
+        ARRAY_TYPE => convert_array(s, pass, work, node, output, errors, rows, index, state),
+        _ => convert_struct(s, pass, work, node, output, errors, rows, index, state),
     }
 }
 
@@ -251,41 +224,27 @@ fn convert_pointer(
     s: &[u8],
     pass: Pass,
     work: &[u32],
-    at: usize,
-    depth: usize,
+    node: Node,
     output: &mut [u8],
     errors: &mut [u32],
     rows: &mut [u32],
-    buckets: &mut [u16; lookup::LENGTH],
+    index: &mut [u16; row_index::LENGTH],
     state: State,
 ) -> Typed
-    requires { ⌜ FineRecord (now s) depth at (length (now s)) aType ⌝ }
-    requires { ⌜ kindAt (now s) at ≡ 18 ⌝ }
-    requires { ⌜ Ready (now s) (lent (now work) (now output) (now errors) (now rows) (now buckets) state) ⌝ }
-    ensures { λ r. ⌜ ConvertedAt (now (s .entry)) pass depth at (lent (now (work .entry)) (now (output .entry)) (now (errors .entry)) (now (rows .entry)) (now (buckets .entry)) state) (lent (now (work .entry)) (now (output .exit)) (now (errors .exit)) (now (rows .exit)) (now (buckets .exit)) (r .state)) (r .ty) ⌝ }
+    requires { ⌜ FineNode (now s) node aType ⌝ }
+    requires { ⌜ kindAt (now s) (node .at) ≡ kinds.pointerType ⌝ }
+    requires { ⌜ Ready (now s) (given work output errors rows index state) ⌝ }
+    ensures { λ r. ⌜ ConvertedNode (old s) pass node
+        (before work output errors rows index state)
+        (after work output errors rows index (r .state)) (r .ty) ⌝ }
 {
-    let pointee = convert_node_type(
-        s,
-        pass,
-        work,
-        at + 20,
-        depth - 1,
-        output,
-        errors,
-        rows,
-        buckets,
-        state,
-    );
+    let at = node.at + FIELD_END;
+    let depth = node.depth - 1;
+    let inner = Node { at, depth };
+    let pointee = convert_node_type(s, pass, work, inner, output, errors, rows, index, state);
     let next = pointee.state;
-    settle_row(
-        at,
-        pass.fill,
-        output,
-        rows,
-        buckets,
-        next,
-        Row::Pointer(pointee.ty),
-    )
+    let row = Row::Pointer(pointee.ty);
+    settle_row(node.at, pass.fill, output, rows, index, next, row)
 }
 
 // The row of an array, after its element.
@@ -293,45 +252,29 @@ fn convert_array(
     s: &[u8],
     pass: Pass,
     work: &[u32],
-    at: usize,
-    depth: usize,
+    node: Node,
     output: &mut [u8],
     errors: &mut [u32],
     rows: &mut [u32],
-    buckets: &mut [u16; lookup::LENGTH],
+    index: &mut [u16; row_index::LENGTH],
     state: State,
 ) -> Typed
-    requires { ⌜ FineRecord (now s) depth at (length (now s)) aType ⌝ }
-    requires { ⌜ kindAt (now s) at ≡ 19 ⌝ }
-    requires { ⌜ Ready (now s) (lent (now work) (now output) (now errors) (now rows) (now buckets) state) ⌝ }
-    ensures { λ r. ⌜ ConvertedAt (now (s .entry)) pass depth at (lent (now (work .entry)) (now (output .entry)) (now (errors .entry)) (now (rows .entry)) (now (buckets .entry)) state) (lent (now (work .entry)) (now (output .exit)) (now (errors .exit)) (now (rows .exit)) (now (buckets .exit)) (r .state)) (r .ty) ⌝ }
+    requires { ⌜ FineNode (now s) node aType ⌝ }
+    requires { ⌜ kindAt (now s) (node .at) ≡ kinds.arrayType ⌝ }
+    requires { ⌜ Ready (now s) (given work output errors rows index state) ⌝ }
+    ensures { λ r. ⌜ ConvertedNode (old s) pass node
+        (before work output errors rows index state)
+        (after work output errors rows index (r .state)) (r .ty) ⌝ }
 {
-    let size = word(s, at + 20);
-    let element = convert_node_type(
-        s,
-        pass,
-        work,
-        at + 24,
-        depth - 1,
-        output,
-        errors,
-        rows,
-        buckets,
-        state,
-    );
-    let next = element.state;
-    settle_row(
-        at,
-        pass.fill,
-        output,
-        rows,
-        buckets,
-        next,
-        Row::Array {
-            element: element.ty,
-            size,
-        },
-    )
+    let size = word(s, node.at + FIELD_END);
+    let at = node.at + FIELDS_END;
+    let depth = node.depth - 1;
+    let inner = Node { at, depth };
+    let typed = convert_node_type(s, pass, work, inner, output, errors, rows, index, state);
+    let next = typed.state;
+    let element = typed.ty;
+    let row = Row::Array { element, size };
+    settle_row(node.at, pass.fill, output, rows, index, next, row)
 }
 
 // The row of a struct, after the cells of its fields.
@@ -339,102 +282,67 @@ fn convert_struct(
     s: &[u8],
     pass: Pass,
     work: &[u32],
-    at: usize,
-    depth: usize,
+    node: Node,
     output: &mut [u8],
     errors: &mut [u32],
     rows: &mut [u32],
-    buckets: &mut [u16; lookup::LENGTH],
+    index: &mut [u16; row_index::LENGTH],
     state: State,
 ) -> Typed
-    requires { ⌜ FineRecord (now s) depth at (length (now s)) aType ⌝ }
-    requires { ⌜ kindAt (now s) at ≡ 20 ⌝ }
-    requires { ⌜ Ready (now s) (lent (now work) (now output) (now errors) (now rows) (now buckets) state) ⌝ }
-    ensures { λ r. ⌜ ConvertedAt (now (s .entry)) pass depth at (lent (now (work .entry)) (now (output .entry)) (now (errors .entry)) (now (rows .entry)) (now (buckets .entry)) state) (lent (now (work .entry)) (now (output .exit)) (now (errors .exit)) (now (rows .exit)) (now (buckets .exit)) (r .state)) (r .ty) ⌝ }
+    requires { ⌜ FineNode (now s) node aType ⌝ }
+    requires { ⌜ kindAt (now s) (node .at) ≡ kinds.structType ⌝ }
+    requires { ⌜ Ready (now s) (given work output errors rows index state) ⌝ }
+    ensures { λ r. ⌜ ConvertedNode (old s) pass node
+        (before work output errors rows index state)
+        (after work output errors rows index (r .state)) (r .ty) ⌝ }
 {
-    let stop = at + length_at(s, at);
-    let fields = convert_fields(
-        s,
-        pass,
-        work,
-        at + 20,
-        stop,
-        depth - 1,
-        output,
-        errors,
-        rows,
-        buckets,
-        state,
-    );
+    let end = node.at + length_at(s, node.at);
+    let from = node.at + FIELD_END;
+    let depth = node.depth - 1;
+    let inner = Nodes { from, end, depth };
+    let fields = convert_fields(s, pass, work, inner, output, errors, rows, index, state);
     let next = fields.state;
-    settle_row(
-        at,
-        pass.fill,
-        output,
-        rows,
-        buckets,
-        next,
-        Row::Struct(fields.ty),
-    )
+    let row = Row::Struct(fields.ty);
+    settle_row(node.at, pass.fill, output, rows, index, next, row)
 }
 
-// The cells of the fields from `from` to `end`, made from the last to the first.
+// The cells of some fields, made from the last to the first.
 fn convert_fields(
     s: &[u8],
     pass: Pass,
     work: &[u32],
-    from: usize,
-    end: usize,
-    depth: usize,
+    fields: Nodes,
     output: &mut [u8],
     errors: &mut [u32],
     rows: &mut [u32],
-    buckets: &mut [u16; lookup::LENGTH],
+    index: &mut [u16; row_index::LENGTH],
     state: State,
 ) -> Typed
-    requires { ⌜ FineList (now s) depth from end Fields ⌝ }
-    requires { ⌜ Ready (now s) (lent (now work) (now output) (now errors) (now rows) (now buckets) state) ⌝ }
-    ensures { λ r. ⌜ FieldsConvertedAt (now (s .entry)) pass depth from end (lent (now (work .entry)) (now (output .entry)) (now (errors .entry)) (now (rows .entry)) (now (buckets .entry)) state) (lent (now (work .entry)) (now (output .exit)) (now (errors .exit)) (now (rows .exit)) (now (buckets .exit)) (r .state)) (r .ty) ⌝ }
+    requires { ⌜ FineNodes (now s) fields Fields ⌝ }
+    requires { ⌜ Ready (now s) (given work output errors rows index state) ⌝ }
+    ensures { λ r. ⌜ FieldsConverted (old s) pass fields
+        (before work output errors rows index state)
+        (after work output errors rows index (r .state)) (r .ty) ⌝ }
 {
-    if end <= from {
+    let end = fields.end;
+    if end <= fields.from {
         return Typed { ty: 0, state };
     }
-    let head = field_head(s, from, end, depth);
-    let field = convert_node_type(
-        s,
-        pass,
-        work,
-        from + 20,
-        depth - 1,
-        output,
-        errors,
-        rows,
-        buckets,
-        state,
-    );
+    let head = field_head(s, fields);
+    let at = fields.from + FIELD_END;
+    let level = fields.depth - 1;
+    let inner = Node { at, depth: level };
+    let field = convert_node_type(s, pass, work, inner, output, errors, rows, index, state);
     let next = field.state;
-    let rest = convert_fields(
-        s,
-        pass,
-        work,
-        head.next,
-        end,
-        depth,
-        output,
-        errors,
-        rows,
-        buckets,
-        next,
-    );
+    let from = head.next;
+    let depth = fields.depth;
+    let later = Nodes { from, end, depth };
+    let rest = convert_fields(s, pass, work, later, output, errors, rows, index, next);
     let last = rest.state;
-    state::make(
-        rows,
-        buckets,
-        last,
-        Row::Field {
-            ty: field.ty,
-            rest: rest.ty,
-            name: head.name,
-        },
-    )
+    let cell = Row::Field {
+        ty: field.ty,
+        rest: rest.ty,
+        name: head.name,
+    };
+    walk::make(rows, index, last, cell)
 }

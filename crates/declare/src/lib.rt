@@ -1,179 +1,141 @@
 // Pass 1 of `type_check_module`: the declared types of the items.
 use convert::Pass;
+use convert::convert_node_type;
 use fallible::kinds::ALIAS_OF_BUILT_IN;
 use fallible::kinds::DUPLICATE_ALIAS;
 use fallible::kinds::INTERNAL_MISMATCH;
 use fallible::kinds::NO_BUILT_IN_FOR_INTERNAL;
+use node::bytes::FIELD_END;
+use node::bytes::FIELDS_END;
+use node::bytes::HEAD_END;
+use node::bytes::KIND;
 use node::bytes::half;
 use node::bytes::length_at;
 use node::bytes::word;
+use node::fine::Node;
+use node::fine::Nodes;
 use node::names::BuiltIns;
-use state::State;
-use state::Typed;
+use shape::kinds::FUNCTION_DEFINITION;
+use shape::kinds::GLOBAL_DECLARATION;
+use shape::kinds::PARAMETER;
+use shape::kinds::TYPE_ALIAS;
 use types::Row;
+use walk::State;
+use walk::Typed;
 ghost use mathlib.Core.Path.{_≡_};
-ghost use Prim.Native.Nat.{_+_, _-_, _*_, _<_, _≤_};
+ghost use Prim.Native.Nat.{_*_, _≤_};
 ghost use lib.ListN.{length};
-ghost use Rattle.lookup.specs.Buckets.{Indexed};
+ghost use Rattle.contract.specs.Moments.{old, final};
+ghost use Rattle.row_index.specs.Index.{Indexed};
 ghost use Rattle.types.specs.Table.{Table, IsType};
+ghost use Rattle.shape.specs.Kinds as kinds;
 ghost use Rattle.shape.specs.Shape.{anItem};
 ghost use Rattle.shape.specs.declared.Holds.the-variants.{Parameters, Items};
 ghost use Rattle.node.specs.Names.{nameCount};
-ghost use Rattle.node.specs.Layout.{kindAt, stopAt};
-ghost use Rattle.node.specs.Record.{typeAt, parametersAt, itemTreeAt};
-ghost use Rattle.node.specs.Fine.{FineRecord, FineList};
+ghost use Rattle.node.specs.Layout.{kindAt};
+ghost use Rattle.node.specs.Fine.{FineNode, FineNodes};
 ghost use Rattle.meaning.specs.Promise.{workWidth};
-ghost use Rattle.state.specs.Represents.{lent};
-ghost use Rattle.places.specs.Absolute.{itemsAt};
 ghost use Rattle.convert.specs.Post.{Ready};
+ghost use Rattle.walk.specs.Moments.{given, before, after};
 ghost use Rattle.declare.specs.Declare.{aliasRow};
-ghost use Rattle.declare.specs.Post.{NamesOne, ParameterEnd, ParametersConverted, FunctionConverted, InternalCompared, AliasStored, Declared, AllDeclared};
-
-// The kinds of items that declare a name, and of a parameter.
-const FUNCTION: u32 = 80;
-
-const ALIAS: u32 = 81;
-
-const VARIABLE: u32 = 83;
-
-const PARAMETER: u32 = 85;
+ghost use Rattle.declare.specs.Post.{NamesOne, ParameterEnd, ConvertedParameters, ConvertedFunction};
+ghost use Rattle.declare.specs.Post.{InternalCompared, AliasStored, DeclaredNode, DeclaredNodes};
 
 // The flags of an alias: 1 is distinct, and from 2 on it is internal.
 const DISTINCT: u32 = 1;
 
 const INTERNAL: u32 = 2;
 
-// The place after the parameter at `from`, or 0 where none is left.
-fn parameter_end(s: &[u8], from: usize, end: usize, depth: usize) -> usize
-    requires { ⌜ FineList (now s) depth from end Parameters ⌝ }
-    ensures { λ r. ⌜ ParameterEnd (now (s .entry)) depth from end r ⌝ }
+// The place after the first of some parameters, or 0 where none is left.
+fn parameter_end(s: &[u8], list: Nodes) -> usize
+    requires { ⌜ FineNodes (now s) list Parameters ⌝ }
+    ensures { λ r. ⌜ ParameterEnd (old s) (list .depth) (list .from) (list .end) r ⌝ }
 {
-    if end <= from {
+    if list.end <= list.from {
         return 0;
     }
-    if half(s, from + 4) != PARAMETER {
+    if half(s, list.from + KIND) != PARAMETER {
         return 0;
     }
-    from + length_at(s, from)
+    list.from + length_at(s, list.from)
 }
 
-// The cells of the parameters from `from`, made from the last to the first.
+// The cells of parameters, made from the last to the first.
 // At most some 1,600 calls are open at a time: a parameter has 40 bytes or more.
 fn convert_parameters(
     s: &[u8],
     names: BuiltIns,
     work: &[u32],
-    from: usize,
-    end: usize,
-    depth: usize,
+    list: Nodes,
     output: &mut [u8],
     errors: &mut [u32],
     rows: &mut [u32],
-    buckets: &mut [u16; lookup::LENGTH],
+    index: &mut [u16; row_index::LENGTH],
     state: State,
 ) -> Typed
-    requires { ⌜ FineList (now s) depth from end Parameters ⌝ }
-    requires { ⌜ Ready (now s) (lent (now work) (now output) (now errors) (now rows) (now buckets) state) ⌝ }
-    ensures { λ r. ⌜ ParametersConverted (now (s .entry)) names (parametersAt (now (s .entry)) depth from end) from end (lent (now (work .entry)) (now (output .entry)) (now (errors .entry)) (now (rows .entry)) (now (buckets .entry)) state) (lent (now (work .entry)) (now (output .exit)) (now (errors .exit)) (now (rows .exit)) (now (buckets .exit)) (r .state)) (r .ty) ⌝ }
+    requires { ⌜ FineNodes (now s) list Parameters ⌝ }
+    requires { ⌜ Ready (now s) (given work output errors rows index state) ⌝ }
+    ensures { λ r. ⌜ ConvertedParameters (old s) names list
+        (before work output errors rows index state)
+        (after work output errors rows index (r .state)) (r .ty) ⌝ }
 {
-    let next = parameter_end(s, from, end, depth);
-    if next < 1 {
+    let from = parameter_end(s, list);
+    if from < 1 {
         return Typed { ty: 0, state };
     }
-    let parameter = convert::convert_node_type(
-        s,
-        Pass { names, fill: false },
-        work,
-        from + 20,
-        depth - 1,
-        output,
-        errors,
-        rows,
-        buckets,
-        state,
-    );
-    let after = parameter.state;
-    let rest = convert_parameters(
-        s,
-        names,
-        work,
-        next,
-        end,
-        depth,
-        output,
-        errors,
-        rows,
-        buckets,
-        after,
-    );
+    let at = list.from + FIELD_END;
+    let inner = list.depth - 1;
+    let node = Node { at, depth: inner };
+    let pass = Pass { names, fill: false };
+    let parameter = convert_node_type(s, pass, work, node, output, errors, rows, index, state);
+    let end = list.end;
+    let depth = list.depth;
+    let others = Nodes { from, end, depth };
+    let middle = parameter.state;
+    let rest = convert_parameters(s, names, work, others, output, errors, rows, index, middle);
     let last = rest.state;
-    state::make(
-        rows,
-        buckets,
-        last,
-        Row::Argument {
-            ty: parameter.ty,
-            rest: rest.ty,
-        },
-    )
+    let row = Row::Argument {
+        ty: parameter.ty,
+        rest: rest.ty,
+    };
+    walk::make(rows, index, last, row)
 }
 
-// The type of the function at `at`: the returned type, then the cells of the parameters.
+// The type of a function: the returned type, then the cells of the parameters.
 fn function_type(
     s: &[u8],
     names: BuiltIns,
     work: &[u32],
-    at: usize,
-    depth: usize,
+    node: Node,
     output: &mut [u8],
     errors: &mut [u32],
     rows: &mut [u32],
-    buckets: &mut [u16; lookup::LENGTH],
+    index: &mut [u16; row_index::LENGTH],
     state: State,
 ) -> Typed
-    requires { ⌜ FineRecord (now s) depth at (length (now s)) anItem ⌝ }
-    requires { ⌜ kindAt (now s) at ≡ 80 ⌝ }
-    requires { ⌜ Ready (now s) (lent (now work) (now output) (now errors) (now rows) (now buckets) state) ⌝ }
-    ensures { λ r. ⌜ FunctionConverted (now (s .entry)) names (typeAt (now (s .entry)) (depth - 1) (at + 20)) (parametersAt (now (s .entry)) (depth - 1) (stopAt (now (s .entry)) (at + 20)) (stopAt (now (s .entry)) at)) at (stopAt (now (s .entry)) at) (lent (now (work .entry)) (now (output .entry)) (now (errors .entry)) (now (rows .entry)) (now (buckets .entry)) state) (lent (now (work .entry)) (now (output .exit)) (now (errors .exit)) (now (rows .exit)) (now (buckets .exit)) (r .state)) (r .ty) ⌝ }
+    requires { ⌜ FineNode (now s) node anItem ⌝ }
+    requires { ⌜ kindAt (now s) (node .at) ≡ kinds.functionDefinition ⌝ }
+    requires { ⌜ Ready (now s) (given work output errors rows index state) ⌝ }
+    ensures { λ r. ⌜ ConvertedFunction (old s) names node
+        (before work output errors rows index state)
+        (after work output errors rows index (r .state)) (r .ty) ⌝ }
 {
-    let stop = at + length_at(s, at);
-    let from = at + 20 + length_at(s, at + 20);
-    let returned = convert::convert_node_type(
-        s,
-        Pass { names, fill: false },
-        work,
-        at + 20,
-        depth - 1,
-        output,
-        errors,
-        rows,
-        buckets,
-        state,
-    );
-    let after = returned.state;
-    let parameters = convert_parameters(
-        s,
-        names,
-        work,
-        from,
-        stop,
-        depth - 1,
-        output,
-        errors,
-        rows,
-        buckets,
-        after,
-    );
+    let end = node.at + length_at(s, node.at);
+    let at = node.at + FIELD_END;
+    let depth = node.depth - 1;
+    let inner = Node { at, depth };
+    let from = at + length_at(s, at);
+    let list = Nodes { from, end, depth };
+    let pass = Pass { names, fill: false };
+    let returned = convert_node_type(s, pass, work, inner, output, errors, rows, index, state);
+    let middle = returned.state;
+    let parameters = convert_parameters(s, names, work, list, output, errors, rows, index, middle);
     let last = parameters.state;
-    state::make(
-        rows,
-        buckets,
-        last,
-        Row::Function {
-            returned: returned.ty,
-            arguments: parameters.ty,
-        },
-    )
+    let row = Row::Function {
+        returned: returned.ty,
+        arguments: parameters.ty,
+    };
+    walk::make(rows, index, last, row)
 }
 
 // A function is a global of its type.
@@ -181,33 +143,23 @@ fn declare_function(
     s: &[u8],
     names: BuiltIns,
     work: &mut [u32],
-    at: usize,
-    depth: usize,
+    node: Node,
     output: &mut [u8],
     errors: &mut [u32],
     rows: &mut [u32],
-    buckets: &mut [u16; lookup::LENGTH],
+    index: &mut [u16; row_index::LENGTH],
     state: State,
 ) -> State
-    requires { ⌜ FineRecord (now s) depth at (length (now s)) anItem ⌝ }
-    requires { ⌜ kindAt (now s) at ≡ 80 ⌝ }
-    requires { ⌜ Ready (now s) (lent (now work) (now output) (now errors) (now rows) (now buckets) state) ⌝ }
-    ensures { λ r. ⌜ Declared (now (s .entry)) names (itemTreeAt (now (s .entry)) depth at) at (stopAt (now (s .entry)) at) (lent (now (work .entry)) (now (output .entry)) (now (errors .entry)) (now (rows .entry)) (now (buckets .entry)) state) (lent (now (work .exit)) (now (output .exit)) (now (errors .exit)) (now (rows .exit)) (now (buckets .exit)) r) ⌝ }
+    requires { ⌜ FineNode (now s) node anItem ⌝ }
+    requires { ⌜ kindAt (now s) (node .at) ≡ kinds.functionDefinition ⌝ }
+    requires { ⌜ Ready (now s) (given work output errors rows index state) ⌝ }
+    ensures { λ r. ⌜ DeclaredNode (old s) names node
+        (before work output errors rows index state)
+        (after work output errors rows index r) ⌝ }
 {
-    let function = function_type(
-        s,
-        names,
-        work,
-        at,
-        depth,
-        output,
-        errors,
-        rows,
-        buckets,
-        state,
-    );
-    let name = word(s, at + 16);
-    state::set_word(work, name, state::GLOBAL, function.ty);
+    let function = function_type(s, names, work, node, output, errors, rows, index, state);
+    let name = word(s, node.at + HEAD_END);
+    walk::set_word(work, name, walk::GLOBAL, function.ty);
     function.state
 }
 
@@ -216,33 +168,27 @@ fn declare_variable(
     s: &[u8],
     names: BuiltIns,
     work: &mut [u32],
-    at: usize,
-    depth: usize,
+    node: Node,
     output: &mut [u8],
     errors: &mut [u32],
     rows: &mut [u32],
-    buckets: &mut [u16; lookup::LENGTH],
+    index: &mut [u16; row_index::LENGTH],
     state: State,
 ) -> State
-    requires { ⌜ FineRecord (now s) depth at (length (now s)) anItem ⌝ }
-    requires { ⌜ kindAt (now s) at ≡ 83 ⌝ }
-    requires { ⌜ Ready (now s) (lent (now work) (now output) (now errors) (now rows) (now buckets) state) ⌝ }
-    ensures { λ r. ⌜ Declared (now (s .entry)) names (itemTreeAt (now (s .entry)) depth at) at (stopAt (now (s .entry)) at) (lent (now (work .entry)) (now (output .entry)) (now (errors .entry)) (now (rows .entry)) (now (buckets .entry)) state) (lent (now (work .exit)) (now (output .exit)) (now (errors .exit)) (now (rows .exit)) (now (buckets .exit)) r) ⌝ }
+    requires { ⌜ FineNode (now s) node anItem ⌝ }
+    requires { ⌜ kindAt (now s) (node .at) ≡ kinds.globalDeclaration ⌝ }
+    requires { ⌜ Ready (now s) (given work output errors rows index state) ⌝ }
+    ensures { λ r. ⌜ DeclaredNode (old s) names node
+        (before work output errors rows index state)
+        (after work output errors rows index r) ⌝ }
 {
-    let variable = convert::convert_node_type(
-        s,
-        Pass { names, fill: false },
-        work,
-        at + 20,
-        depth - 1,
-        output,
-        errors,
-        rows,
-        buckets,
-        state,
-    );
-    let name = word(s, at + 16);
-    state::set_word(work, name, state::GLOBAL, variable.ty);
+    let at = node.at + FIELD_END;
+    let depth = node.depth - 1;
+    let inner = Node { at, depth };
+    let pass = Pass { names, fill: false };
+    let variable = convert_node_type(s, pass, work, inner, output, errors, rows, index, state);
+    let name = word(s, node.at + HEAD_END);
+    walk::set_word(work, name, walk::GLOBAL, variable.ty);
     variable.state
 }
 
@@ -258,13 +204,13 @@ fn internal_alias(
 ) -> State
     requires { ⌜ NamesOne (now s) at ⌝ }
     requires { ⌜ Table (now rows) (state .rows) × IsType (now rows) (state .rows) ty ⌝ }
-    ensures { λ r. ⌜ InternalCompared (now (s .entry)) names at ty (now (rows .entry)) (now (errors .entry)) state (now (errors .exit)) r ⌝ }
+    ensures { λ r. ⌜ InternalCompared (old s) names at ty (old rows) (old errors) state (final errors) r ⌝ }
 {
-    let name = word(s, at + 16);
+    let name = word(s, at + HEAD_END);
     let primitive = convert::primitive_type(names, name);
     if primitive < 1 {
         let error = convert::error_at(s, at, NO_BUILT_IN_FOR_INTERNAL, name, 0, 0);
-        return state::report(errors, state, error);
+        return walk::report(errors, state, error);
     }
     let count = state.rows;
     let plain = types::remove_aliasing(rows, count, ty);
@@ -273,7 +219,7 @@ fn internal_alias(
         return state;
     }
     let error = convert::error_at(s, at, INTERNAL_MISMATCH, name, ty, 0);
-    state::report(errors, state, error)
+    walk::report(errors, state, error)
 }
 
 // The row of an alias.
@@ -296,29 +242,31 @@ fn store_alias(
     ty: u32,
     errors: &mut [u32],
     rows: &mut [u32],
-    buckets: &mut [u16; lookup::LENGTH],
+    index: &mut [u16; row_index::LENGTH],
     state: State,
 ) -> State
     requires { ⌜ NamesOne (now s) at ⌝ }
     requires { ⌜ workWidth * nameCount (now s) ≤ length (now work) ⌝ }
     requires { ⌜ Table (now rows) (state .rows) × IsType (now rows) (state .rows) ty ⌝ }
-    requires { ⌜ Indexed (now rows) (state .rows) (now buckets) ⌝ }
-    ensures { λ r. ⌜ AliasStored (now (s .entry)) names at distinct ty (now (work .entry)) (now (errors .entry)) (now (rows .entry)) (now (buckets .entry)) state (now (work .exit)) (now (errors .exit)) (now (rows .exit)) (now (buckets .exit)) r ⌝ }
+    requires { ⌜ Indexed (now rows) (state .rows) (now index) ⌝ }
+    ensures { λ r. ⌜ AliasStored (old s) names at distinct ty
+        (old work) (old errors) (old rows) (old index) state
+        (final work) (final errors) (final rows) (final index) r ⌝ }
 {
-    let name = word(s, at + 16);
-    let earlier = state::word_of(work, name, state::ALIAS);
+    let name = word(s, at + HEAD_END);
+    let earlier = walk::word_of(work, name, walk::ALIAS);
     if 0 < earlier {
         let error = convert::error_at(s, at, DUPLICATE_ALIAS, name, 0, 0);
-        return state::report(errors, state, error);
+        return walk::report(errors, state, error);
     }
     let primitive = convert::primitive_type(names, name);
     if 0 < primitive {
         let error = convert::error_at(s, at, ALIAS_OF_BUILT_IN, name, 0, 0);
-        return state::report(errors, state, error);
+        return walk::report(errors, state, error);
     }
     let row = alias_row(distinct, ty, name);
-    let alias = state::make(rows, buckets, state, row);
-    state::set_word(work, name, state::ALIAS, alias.ty);
+    let alias = walk::make(rows, index, state, row);
+    walk::set_word(work, name, walk::ALIAS, alias.ty);
     alias.state
 }
 
@@ -327,142 +275,91 @@ fn declare_alias(
     s: &[u8],
     names: BuiltIns,
     work: &mut [u32],
-    at: usize,
-    depth: usize,
+    node: Node,
     output: &mut [u8],
     errors: &mut [u32],
     rows: &mut [u32],
-    buckets: &mut [u16; lookup::LENGTH],
+    index: &mut [u16; row_index::LENGTH],
     state: State,
 ) -> State
-    requires { ⌜ FineRecord (now s) depth at (length (now s)) anItem ⌝ }
-    requires { ⌜ kindAt (now s) at ≡ 81 ⌝ }
-    requires { ⌜ Ready (now s) (lent (now work) (now output) (now errors) (now rows) (now buckets) state) ⌝ }
-    ensures { λ r. ⌜ Declared (now (s .entry)) names (itemTreeAt (now (s .entry)) depth at) at (stopAt (now (s .entry)) at) (lent (now (work .entry)) (now (output .entry)) (now (errors .entry)) (now (rows .entry)) (now (buckets .entry)) state) (lent (now (work .exit)) (now (output .exit)) (now (errors .exit)) (now (rows .exit)) (now (buckets .exit)) r) ⌝ }
+    requires { ⌜ FineNode (now s) node anItem ⌝ }
+    requires { ⌜ kindAt (now s) (node .at) ≡ kinds.typeAlias ⌝ }
+    requires { ⌜ Ready (now s) (given work output errors rows index state) ⌝ }
+    ensures { λ r. ⌜ DeclaredNode (old s) names node
+        (before work output errors rows index state)
+        (after work output errors rows index r) ⌝ }
 {
-    let flags = word(s, at + 20);
-    let aliased = convert::convert_node_type(
-        s,
-        Pass { names, fill: false },
-        work,
-        at + 24,
-        depth - 1,
-        output,
-        errors,
-        rows,
-        buckets,
-        state,
-    );
-    let after = aliased.state;
+    let at = node.at;
+    let flags = word(s, at + FIELD_END);
+    let start = at + FIELDS_END;
+    let depth = node.depth - 1;
+    let inner = Node { at: start, depth };
+    let pass = Pass { names, fill: false };
+    let aliased = convert_node_type(s, pass, work, inner, output, errors, rows, index, state);
+    let ty = aliased.ty;
+    let next = aliased.state;
     if INTERNAL <= flags {
-        return internal_alias(s, names, at, aliased.ty, errors, rows, after);
+        return internal_alias(s, names, at, ty, errors, rows, next);
     }
-    store_alias(
-        s,
-        names,
-        work,
-        at,
-        flags == DISTINCT,
-        aliased.ty,
-        errors,
-        rows,
-        buckets,
-        after,
-    )
+    let distinct = flags == DISTINCT;
+    store_alias(s, names, work, at, distinct, ty, errors, rows, index, next)
 }
 
-// The item at `at`, with so many levels left.
+// An item.
 fn declare_item(
     s: &[u8],
     names: BuiltIns,
     work: &mut [u32],
-    at: usize,
-    depth: usize,
+    node: Node,
     output: &mut [u8],
     errors: &mut [u32],
     rows: &mut [u32],
-    buckets: &mut [u16; lookup::LENGTH],
+    index: &mut [u16; row_index::LENGTH],
     state: State,
 ) -> State
-    requires { ⌜ FineRecord (now s) depth at (length (now s)) anItem ⌝ }
-    requires { ⌜ Ready (now s) (lent (now work) (now output) (now errors) (now rows) (now buckets) state) ⌝ }
-    ensures { λ r. ⌜ Declared (now (s .entry)) names (itemTreeAt (now (s .entry)) depth at) at (stopAt (now (s .entry)) at) (lent (now (work .entry)) (now (output .entry)) (now (errors .entry)) (now (rows .entry)) (now (buckets .entry)) state) (lent (now (work .exit)) (now (output .exit)) (now (errors .exit)) (now (rows .exit)) (now (buckets .exit)) r) ⌝ }
+    requires { ⌜ FineNode (now s) node anItem ⌝ }
+    requires { ⌜ Ready (now s) (given work output errors rows index state) ⌝ }
+    ensures { λ r. ⌜ DeclaredNode (old s) names node
+        (before work output errors rows index state)
+        (after work output errors rows index r) ⌝ }
 {
-    let kind = half(s, at + 4);
+    let kind = half(s, node.at + KIND);
     match kind {
-        FUNCTION => declare_function(
-            s,
-            names,
-            work,
-            at,
-            depth,
-            output,
-            errors,
-            rows,
-            buckets,
-            state,
-        ),
-        ALIAS => declare_alias(
-            s,
-            names,
-            work,
-            at,
-            depth,
-            output,
-            errors,
-            rows,
-            buckets,
-            state,
-        ),
-        VARIABLE => declare_variable(
-            s,
-            names,
-            work,
-            at,
-            depth,
-            output,
-            errors,
-            rows,
-            buckets,
-            state,
-        ),
+        FUNCTION_DEFINITION => {
+            declare_function(s, names, work, node, output, errors, rows, index, state)
+        }
+        TYPE_ALIAS => declare_alias(s, names, work, node, output, errors, rows, index, state),
+        GLOBAL_DECLARATION => {
+            declare_variable(s, names, work, node, output, errors, rows, index, state)
+        }
         _ => state,
     }
 }
 
-// Pass 1 over the items from `from` to `end`, in order: each with the aliases stored so far.
+// Pass 1 over items, in order: each with the aliases stored so far.
 pub fn declare_items(
     s: &[u8],
     names: BuiltIns,
     work: &mut [u32],
-    from: usize,
-    end: usize,
-    depth: usize,
+    list: Nodes,
     output: &mut [u8],
     errors: &mut [u32],
     rows: &mut [u32],
-    buckets: &mut [u16; lookup::LENGTH],
+    index: &mut [u16; row_index::LENGTH],
     state: State,
 ) -> State
-    requires { ⌜ FineList (now s) depth from end Items ⌝ }
-    requires { ⌜ Ready (now s) (lent (now work) (now output) (now errors) (now rows) (now buckets) state) ⌝ }
-    ensures { λ r. ⌜ AllDeclared (now (s .entry)) names (itemsAt (now (s .entry)) depth from end) from end (lent (now (work .entry)) (now (output .entry)) (now (errors .entry)) (now (rows .entry)) (now (buckets .entry)) state) (lent (now (work .exit)) (now (output .exit)) (now (errors .exit)) (now (rows .exit)) (now (buckets .exit)) r) ⌝ }
+    requires { ⌜ FineNodes (now s) list Items ⌝ }
+    requires { ⌜ Ready (now s) (given work output errors rows index state) ⌝ }
+    ensures { λ r. ⌜ DeclaredNodes (old s) names list
+        (before work output errors rows index state)
+        (after work output errors rows index r) ⌝ }
 {
-    let mut at = from;
+    let depth = list.depth;
+    let mut at = list.from;
     let mut last = state;
-    while at < end {
-        last = declare_item(
-            s,
-            names,
-            work,
-            at,
-            depth,
-            output,
-            errors,
-            rows,
-            buckets,
-            last,
-        );
+    while at < list.end {
+        let node = Node { at, depth };
+        last = declare_item(s, names, work, node, output, errors, rows, index, last);
         at += length_at(s, at);
     }
     last

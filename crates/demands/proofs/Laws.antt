@@ -1,15 +1,15 @@
 -- Every run that meets the entry's promise meets the three demands. Assumes nothing.
-use Prim.Native.Nat.{ℕ, _*_, _≤_}
-use mathlib.Core.Path.{_≡_, refl, sym, _∙_, ap, subst}
+use Prim.Native.Nat.{ℕ, _*_}
+use mathlib.Core.Path.{_≡_, refl, _∙_, ap}
 use mathlib.Core.Bool.{Bool, true, false, _||_}
-use mathlib.Core.List.{List, [], _∷_}
+use mathlib.Core.List.{List}
 use mathlib.Core.Option.{Option, none, some}
 use native.Mathlib.Omega.{arith}
 use lib.Dec.{ltb}
 use lib.ListN.{length}
 use borrow.Author.Tests.{le-ltb, ltb-false}
 use Rattle.types.specs.Table.{rowWidth}
-use Rattle.fallible.specs.Outcome.{Outcome, refused, accepted}
+use Rattle.fallible.specs.Outcome.{refused, accepted, orNext, firstRefusing, outcomeAfter}
 use Rattle.fallible.specs.Errors.{errorWidth}
 use Rattle.node.specs.Layout.{layoutOf, layoutRefusal}
 use Rattle.node.specs.Names.{namesOf, repeatedName, nameRefusal}
@@ -17,18 +17,10 @@ use Rattle.node.specs.declared.layout.Layout.{Layout}
 use Rattle.node.specs.declared.layout.Layout.the-variants.{Good, TooLong, Fault, TooDeep}
 use Rattle.node.specs.declared.names.Repeated.{Repeated}
 use Rattle.node.specs.declared.names.Repeated.the-variants.{Nowhere, At}
-use Rattle.meaning.specs.Promise.{workWidth, Counts, countsOf, Lengths, lengthsOf, refuseIf, tests, outcomeAfter, firstRefusal, answerOf, Checked}
+use Rattle.meaning.specs.Promise.{workWidth, Counts, countsOf, Lengths, lengthsOf, refuseIf, tests, answerOf}
 use Rattle.meaning.specs.JoiningOrder.{Run, Meets}
 use Rattle.meaning.proofs.Whole.{joining-order}
-use Rattle.type_check.specs.Post.{orNext}
-use Rattle.demands.specs.Demands.{Fits, Whole, firstOf, TurnedBack, Demand1, Demand2, TwoOrders, Demand3, Demands}
-
--- The first refusal decides the answer
-answer-first : (ts : List (Option (ℕ × ℕ))) (o : Outcome Counts) → firstRefusal ts o ≡ outcomeAfter (firstOf ts) o
-unfolding firstOf
-answer-first [] o = refl
-answer-first (none ∷ ts) o = answer-first ts o
-answer-first (some r ∷ ts) o = refl
+use Rattle.demands.specs.Demands.{Fits, TurnedBack, Demand1, Demand2, Demand3, Demands}
 
 -- No test refuses exactly if the module fits
 never : {A : Type 0} {r : ℕ × ℕ} → _≡_ {A = Option (ℕ × ℕ)} (some r) none → A
@@ -67,8 +59,8 @@ right-false true b e = absurd (let z : _≡_ {A = ℕ} 0 1 = cc in omega arith)
 right-false false b e = e
 
 module _ (input : List ℕ) (lent : Lengths) where
-  fits-none : Fits input lent → firstOf (tests input lent) ≡ none
-  unfolding firstOf layoutRefusal nameRefusal
+  fits-none : Fits input lent → firstRefusing (tests input lent) ≡ none
+  unfolding layoutRefusal nameRefusal
   fits-none f =
       let a : layoutRefusal (layoutOf input) ≡ none = ap layoutRefusal (f .layout) in
       let b : nameRefusal (repeatedName input) ≡ none = ap nameRefusal (f .names) in
@@ -78,8 +70,7 @@ module _ (input : List ℕ) (lent : Lengths) where
       let g = le-ltb (lent .errors) (errorWidth * countsOf input .errors) (f .errors) in
       λ i. orNext (a i) (orNext (b i) (orNext (refuseIf (c i || d i) 5) (orNext (refuseIf (e i) 6) (orNext (refuseIf (g i) 7) none))))
 
-  none-fits : firstOf (tests input lent) ≡ none → Fits input lent
-  unfolding firstOf
+  none-fits : firstRefusing (tests input lent) ≡ none → Fits input lent
   none-fits e =
       let a = layoutRefusal (layoutOf input) in
       let b = nameRefusal (repeatedName input) in
@@ -106,9 +97,9 @@ module _ (input : List ℕ) (lent : Lengths) where
       }
 
 module _ (c : Run) (meets : Meets c) where
-  answer-by : c .answer ≡ outcomeAfter (firstOf (tests (c .input) (lengthsOf (c .before)))) (accepted (countsOf (c .input)))
+  answer-by : c .answer ≡ outcomeAfter (firstRefusing (tests (c .input) (lengthsOf (c .before)))) (accepted (countsOf (c .input)))
   unfolding answerOf
-  answer-by = meets .answers ∙ answer-first (tests (c .input) (lengthsOf (c .before))) (accepted (countsOf (c .input)))
+  answer-by = meets .answers
 
   pub demand-1 : Demand1 c
   demand-1 =
@@ -117,10 +108,10 @@ module _ (c : Run) (meets : Meets c) where
             let e : c .answer ≡ accepted (countsOf (c .input)) =
             answer-by ∙ ap (λ x. outcomeAfter x (accepted (countsOf (c .input)))) (fits-none (c .input) (lengthsOf (c .before)) fits) in
             record { answer = e; back = meets .filled (countsOf (c .input)) e };
-        otherwise = λ not. turned (firstOf (tests (c .input) (lengthsOf (c .before)))) refl not;
+        otherwise = λ not. turned (firstRefusing (tests (c .input) (lengthsOf (c .before)))) refl not;
       }
     where
-      turned : (first : Option (ℕ × ℕ)) → firstOf (tests (c .input) (lengthsOf (c .before))) ≡ first → (Fits (c .input) (lengthsOf (c .before)) → ⊥) → TurnedBack c
+      turned : (first : Option (ℕ × ℕ)) → firstRefusing (tests (c .input) (lengthsOf (c .before))) ≡ first → (Fits (c .input) (lengthsOf (c .before)) → ⊥) → TurnedBack c
       turned none e not = absurd (not (none-fits (c .input) (lengthsOf (c .before)) e))
       turned (some r) e not =
           let a : c .answer ≡ refused (r .0) (r .1) = answer-by ∙ ap (λ x. outcomeAfter x (accepted (countsOf (c .input)))) e in

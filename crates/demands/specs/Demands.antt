@@ -1,11 +1,14 @@
 -- The request's three demands, each over whole runs of the entry: what a call was given, left and answered (`Run`). Types are compared unfolded.
 use Prim.Native.Nat.{ℕ, _*_, _≤_, _<_}
 use mathlib.Core.Path.{_≡_}
-use mathlib.Core.List.{List, [], _∷_}
-use mathlib.Core.Option.{Option, none, some}
+use mathlib.Core.List.{List}
+use mathlib.Core.Option.{some}
 use lib.ListN.{length}
+use denote.Ref.{RefT}
+use denote.Triple.Both.{Both}
+use Rattle.contract.specs.Moments.{old}
 use Rattle.types.specs.Table.{rowWidth}
-use Rattle.fallible.specs.Outcome.{Outcome, refused, accepted}
+use Rattle.fallible.specs.Outcome.{Outcome, refused, accepted, firstRefusing}
 use Rattle.fallible.specs.Errors.{errorWidth}
 use Rattle.node.specs.Layout.{layoutOf}
 use Rattle.node.specs.Names.{namesOf, repeatedName}
@@ -13,9 +16,10 @@ use Rattle.node.specs.Record.{itemTree, itemSlotPlaces}
 use Rattle.node.specs.declared.layout.Layout.the-variants.{Good}
 use Rattle.node.specs.declared.names.Repeated.the-variants.{Nowhere}
 use Rattle.meaning.specs.Module.{itemTypes}
-use Rattle.meaning.specs.Promise.{workWidth, Counts, countsOf, Buffers, Lengths, lengthsOf, tests, wiped, Accepted, contextOf, errorsOf, errorListOf, itemCount, itemAt, outputAt, slotTypes}
+use Rattle.meaning.specs.Promise.{workWidth, Counts, countsOf, Buffers, Lengths, lengthsOf, tests, wiped, Accepted}
+use Rattle.meaning.specs.Promise.{contextOf, errorsOf, errorListOf, itemCount, itemAt, outputAt, slotTypes}
 use Rattle.meaning.specs.JoiningOrder.{Run, AnotherOrder, Supposed, SameOutcome}
-use Rattle.type_check.specs.Post.{orNext}
+use Rattle.type_check.specs.Post.{buffersBefore, buffersAfter}
 
 -- Demand 1. "A module file that meets the layout, repeats no name in its list and fits the buffers lent"
 pub record Fits (input : List ℕ) (lent : Lengths) : Type 0 where
@@ -31,17 +35,12 @@ pub record Whole (run : Run) : Type 0 where
   pub answer : run .answer ≡ accepted (countsOf (run .input))
   pub back : Accepted (run .input) (run .before) (run .after) (countsOf (run .input))
 
--- The first of some tests that refuses, with its number and place
-unfoldable pub firstOf : List (Option (ℕ × ℕ)) → Option (ℕ × ℕ)
-firstOf [] = none
-firstOf (t ∷ tests) = orNext t (firstOf tests)
-
 -- "Every other input gets the number in document 01's table and leaves each buffer as that table says"
 pub record TurnedBack (run : Run) : Type 0 where
   pub number : ℕ
   pub place : ℕ
   pub answer : run .answer ≡ refused number place
-  pub table : firstOf (tests (run .input) (lengthsOf (run .before))) ≡ some (number, place)
+  pub table : firstRefusing (tests (run .input) (lengthsOf (run .before))) ≡ some (number, place)
   pub left : number ≤ 5 → run .after ≡ run .before
   pub zeroed : 6 ≤ number → run .after ≡ wiped (run .input) (run .before)
 
@@ -71,6 +70,10 @@ Demand3 c d = TwoOrders c d → SameOutcome c d (c .answer) (d .answer)
 -- A run of the entry, and all three demands of two of them
 abbrev pub run : (input : List ℕ) → (before after : Buffers) → Outcome Counts → Run
 run input before after answer = record { input = input; before = before; after = after; answer = answer }
+
+-- as a contract names it
+abbrev pub runOf : (input output rows errors work : Both (RefT (List ℕ)) (RefT (List ℕ))) → Outcome Counts → Run
+runOf input output rows errors work = run (old input) (buffersBefore output rows errors work) (buffersAfter output rows errors work)
 
 pub record Demands (c d : Run) : Type 0 where
   pub first : Demand1 c

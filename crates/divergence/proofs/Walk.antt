@@ -11,9 +11,12 @@ use borrow.Author.Tests.{eqb-true, eqb-false, ne-eqb}
 use Rattle.shape.specs.Shape.{aStatement, anExpression, dueIn}
 use Rattle.shape.specs.declared.Holds.the-variants.{Statements}
 use Rattle.shape.proofs.ShapeLaws.{statement-kind as statement-range}
-use Rattle.node.specs.Bytes.{halfAt, wordAt}
+use Rattle.node.specs.Bytes.{wordAt}
 use Rattle.node.specs.Layout.{kindAt, stopAt, maxBytes}
-use Rattle.node.specs.Fine.{FineRecord, FineList}
+use Rattle.node.specs.Fine.{FineRecord, FineList, FineNode, FineNodes, insideOf, childrenOf}
+use Rattle.node.specs.declared.fine.Node.{Node}
+use Rattle.node.specs.declared.fine.Nodes.{Nodes}
+use Rattle.node.specs.declared.fine.Entered.{Entered}
 use Rattle.node.specs.Record.{statementAt, statementsAt}
 use Rattle.node.specs.Tree.{Statement, block, expression, variableDeclaration, assignment, compoundAssignment, return, loop, while, break, «if», ifElse, inlineAssembly, noStatements, statementThen}
 use Rattle.node.proofs.Open.{opened, SplitOne, split-may}
@@ -21,7 +24,6 @@ use Rattle.node.proofs.Decode.{fine-in, fine-wide}
 use Rattle.meaning.specs.Divergence.{findBreak, doAllPathsDiverge}
 use Rattle.node.proofs.Statements.{secondAt, thirdAt, statements-cons, statements-end, no-statements, more-statements, statement-block, statement-loop, statement-while, statement-break, statement-return, statement-if, if-only, if-else, IfAt, IfElseAt, statementKind, kind-of}
 use Rattle.divergence.specs.InnerStatements.{innerStatements, InnerOf}
-use Rattle.divergence.specs.declared.Inner.{Inner}
 
 -- A break is the statement itself or in what it holds
 find-break-inner : (t : Statement) → findBreak t ≡ (eqb (statementKind t) 72 || findBreak (innerStatements t))
@@ -143,71 +145,113 @@ sides-of s d at i = go (eqb (thirdAt s at) (stopAt s at)) refl
     go true e = only (eqb-true (thirdAt s at) (stopAt s at) e)
     go false e = both (if-else s d at i (eqb-false (thirdAt s at) (stopAt s at) e))
 
--- `inner_statements`, arm by arm
-module _ (s : List ℕ) (d at : ℕ) (f : FineRecord s d at (length s) aStatement) (k len : ℕ) (ek : k ≡ halfAt s (at + 4)) (el : len ≡ wordAt s at) where
-  inner-of : (start : ℕ) → at + 16 ≤ start → FineList s (d - 1) start (stopAt s at) Statements → statementsAt s (d - 1) start (stopAt s at) ≡ innerStatements (statementAt s d at)
-      → ((k ≡ 71) ⊎ (k ≡ 73) → start ≡ secondAt s at) → ((k ≡ 64 → ⊥) → (k ≡ 70 → ⊥) → ((k ≡ 71) ⊎ (k ≡ 73) → ⊥) → start ≡ stopAt s at)
-      → InnerOf s d at (record { kind = k; start = start; stop = at + len })
-  inner-of start l g m h n = rw el (record { kinds = ek; stops = refl; deep = bounds s d at (length s) aStatement f .deep; fine = g; members = m; low = l; sides = h; none = n })
+-- `inner_start`, arm by arm
+module _ (s : List ℕ) (d at : ℕ) (f : FineRecord s d at (length s) aStatement) (k stop : ℕ) (ek : k ≡ kindAt s at) (es : stop ≡ stopAt s at) where
+  -- the answer, with the place x
+  abbrev InnerFrom : ℕ → Type 0
+  InnerFrom x = InnerOf s (record { at = at; depth = d }) (record { at = at; depth = d; kind = k; start = x; stop = stop })
+
+  -- what that place is for a block, for a loop, after a condition, and else
+  record PlaceOf (x : ℕ) : Type 0 where
+    pub blocks : k ≡ 64 → x ≡ at + 20
+    pub loops : k ≡ 70 → x ≡ at + 16
+    pub sides : (k ≡ 71) ⊎ (k ≡ 73) → x ≡ secondAt s at
+    pub none : (k ≡ 64 → ⊥) → (k ≡ 70 → ⊥) → ((k ≡ 71) ⊎ (k ≡ 73) → ⊥) → x ≡ stopAt s at
+
+  inner-of : (x : ℕ) → at + 16 ≤ x → FineList s (d - 1) x (stopAt s at) Statements → statementsAt s (d - 1) x (stopAt s at) ≡ innerStatements (statementAt s d at) → PlaceOf x → InnerFrom x
+  inner-of x l g m p =
+      record {
+        place = refl;
+        levels = refl;
+        kinds = ek;
+        stops = es;
+        deep = bounds s d at (length s) aStatement f .deep;
+        fine = rw es g;
+        members = rw es m;
+        low = l;
+        blocks = p .blocks;
+        loops = p .loops;
+        sides = p .sides;
+        none = λ a b c. p .none a b c ∙ sym es;
+      }
 
   -- neither a while nor an if
   no-condition : {A : Type 0} (j : ℕ) → k ≡ j → (j ≡ 71 → ⊥) → (j ≡ 73 → ⊥) → (k ≡ 71) ⊎ (k ≡ 73) → A
   no-condition j e a b (inl x) = absurd (a (sym e ∙ x))
   no-condition j e a b (inr x) = absurd (b (sym e ∙ x))
 
-  pub inner-block : k ≡ 64 → InnerOf s d at (record { kind = k; start = at + 20; stop = at + len })
+  kind-at : (j : ℕ) → k ≡ j → kindAt s at ≡ j
+  kind-at j e = sym ek ∙ e
+
+  pub inner-block : k ≡ 64 → InnerFrom (at + 20)
   unfolding innerStatements
   inner-block e =
-      let b = statement-block s d at (length s) f (sym ek ∙ e) in
-      inner-of (at + 20) (omega arith) (b .members) (sym (ap innerStatements (b .is))) (no-condition 64 e (λ x. omega arith) (λ x. omega arith)) (λ x y z. absurd (x e))
+      let b = statement-block s d at (length s) f (kind-at 64 e) in
+      inner-of (at + 20) (omega arith) (b .members) (sym (ap innerStatements (b .is))) (record {
+        blocks = λ x. refl;
+        loops = λ x. absurd (let z : _≡_ {A = ℕ} 64 70 = sym e ∙ x in omega arith);
+        sides = no-condition 64 e (λ x. omega arith) (λ x. omega arith);
+        none = λ x y z. absurd (x e);
+      })
 
-  pub inner-loop : k ≡ 70 → InnerOf s d at (record { kind = k; start = at + 16; stop = at + len })
+  pub inner-loop : k ≡ 70 → InnerFrom (at + 16)
   unfolding innerStatements
   inner-loop e =
-      let b = statement-loop s d at (length s) f (sym ek ∙ e) in
+      let b = statement-loop s d at (length s) f (kind-at 70 e) in
       let r = bounds s d at (length s) aStatement f .stop in
-      inner-of (at + 16) (omega arith) (one-fine s (d - 1) (at + 16) (stopAt s at) (b .body) (b .ends) r) (one-is s (d - 1) (at + 16) (stopAt s at) (b .body) (b .ends) r ∙ sym (ap innerStatements (b .is)))
-      (no-condition 70 e (λ x. omega arith) (λ x. omega arith)) (λ x y z. absurd (y e))
+      inner-of (at + 16) (omega arith) (one-fine s (d - 1) (at + 16) (stopAt s at) (b .body) (b .ends) r) (one-is s (d - 1) (at + 16) (stopAt s at) (b .body) (b .ends) r ∙ sym (ap innerStatements (b .is))) (record {
+        blocks = λ x. absurd (let z : _≡_ {A = ℕ} 70 64 = sym e ∙ x in omega arith);
+        loops = λ x. refl;
+        sides = no-condition 70 e (λ x. omega arith) (λ x. omega arith);
+        none = λ x y z. absurd (y e);
+      })
 
-  -- after the condition of a while or an if
-  pub inner-after : (w : ℕ) → w ≡ wordAt s (at + 16) → (k ≡ 71) ⊎ (k ≡ 73) → InnerOf s d at (record { kind = k; start = at + 16 + w; stop = at + len })
+  -- a while or an if starts with its condition
+  pub condition-bounds : (k ≡ 71) ⊎ (k ≡ 73) → Bounds s (d - 1) (at + 16)
+  condition-bounds (inl e) = bounds s (d - 1) (at + 16) (length s) anExpression (statement-while s d at (length s) f (kind-at 71 e) .condition)
+  condition-bounds (inr e) = bounds s (d - 1) (at + 16) (length s) anExpression (statement-if s d at (length s) f (kind-at 73 e) .condition)
+
+  after-condition : (c : (k ≡ 71) ⊎ (k ≡ 73)) → PlaceOf (secondAt s at)
+  after-condition c =
+      record {
+        blocks = λ x. no-condition 64 x (λ y. omega arith) (λ y. omega arith) c;
+        loops = λ x. no-condition 70 x (λ y. omega arith) (λ y. omega arith) c;
+        sides = λ x. refl;
+        none = λ x y z. absurd (z c);
+      }
+
+  inner-second : (k ≡ 71) ⊎ (k ≡ 73) → InnerFrom (secondAt s at)
   unfolding innerStatements
-  inner-after w ew (inl e) =
-      let b = statement-while s d at (length s) f (sym ek ∙ e) in
+  inner-second (inl e) =
+      let b = statement-while s d at (length s) f (kind-at 71 e) in
       let r = bounds s d at (length s) aStatement f .stop in
       let a = secondAt s at in
-      let c = bounds s (d - 1) (at + 16) (length s) anExpression (b .condition) .head in
-      rw ew (inner-of a (omega arith) (one-fine s (d - 1) a (stopAt s at) (b .body) (b .ends) r) (one-is s (d - 1) a (stopAt s at) (b .body) (b .ends) r ∙ sym (ap innerStatements (b .is)))
-      (λ h. refl) (λ x y z. absurd (z (inl e))))
-  inner-after w ew (inr e) =
-      let i = statement-if s d at (length s) f (sym ek ∙ e) in
-      let o = sides-of s d at i in
+      let c = condition-bounds (inl e) .head in
+      inner-of a (omega arith) (one-fine s (d - 1) a (stopAt s at) (b .body) (b .ends) r) (one-is s (d - 1) a (stopAt s at) (b .body) (b .ends) r ∙ sym (ap innerStatements (b .is))) (after-condition (inl e))
+  inner-second (inr e) =
+      let i = statement-if s d at (length s) f (kind-at 73 e) in
+      let q = sides-of s d at i in
       let a = secondAt s at in
       let g = fine-in s (d - 1) a (length s) (stopAt s at) aStatement (i .body) (i .rest .part .starts) (i .rest .part .ends) in
-      let c = bounds s (d - 1) (at + 16) (length s) anExpression (i .condition) .head in
-      rw ew (inner-of a (omega arith) (more-statements s (d - 1) a (stopAt s at) g (o .rest)) (statements-cons s (d - 1) a (stopAt s at) aStatement g ∙ o .members) (λ h. refl) (λ x y z. absurd (z (inr e))))
+      let c = condition-bounds (inr e) .head in
+      inner-of a (omega arith) (more-statements s (d - 1) a (stopAt s at) g (q .rest)) (statements-cons s (d - 1) a (stopAt s at) aStatement g ∙ q .members) (after-condition (inr e))
 
-  pub condition-room : (k ≡ 71) ⊎ (k ≡ 73) → at + 20 ≤ length s
-  condition-room (inl e) =
-      let b = bounds s (d - 1) (at + 16) (length s) anExpression (statement-while s d at (length s) f (sym ek ∙ e) .condition) in
-      omega (arith, b .head, b .stop)
-  condition-room (inr e) =
-      let b = bounds s (d - 1) (at + 16) (length s) anExpression (statement-if s d at (length s) f (sym ek ∙ e) .condition) in
-      omega (arith, b .head, b .stop)
+  pub inner-after : (w : ℕ) → w ≡ wordAt s (at + 16) → (k ≡ 71) ⊎ (k ≡ 73) → InnerFrom (at + 16 + w)
+  inner-after w ew c = rw ew (inner-second c)
 
-  pub inner-none : (k ≡ 64 → ⊥) → (k ≡ 70 → ⊥) → ((k ≡ 71) ⊎ (k ≡ 73) → ⊥) → InnerOf s d at (record { kind = k; start = at + len; stop = at + len })
-  inner-none a b n =
-      let c : k ≡ 71 → ⊥ = λ x. n (inl x) in
-      let h : k ≡ 73 → ⊥ = λ x. n (inr x) in
-      let o = bounds s d at (length s) aStatement f in
+  pub inner-none : (k ≡ 64 → ⊥) → (k ≡ 70 → ⊥) → ((k ≡ 71) ⊎ (k ≡ 73) → ⊥) → InnerFrom stop
+  inner-none m p n =
       let q : statementKind (statementAt s d at) ≡ k = kind-of s d at (length s) f ∙ sym ek in
       let l : 64 ≤ k = rw ek (statement-range (kindAt s at) (opened s d at (length s) aStatement f .belongs) .0) in
-      subst (λ (x : ℕ). InnerOf s d at (record { kind = k; start = x; stop = at + len })) (ap (λ (x : ℕ). at + x) (sym el))
-      (inner-of (stopAt s at) (o .head) (empty-fine s (d - 1) (stopAt s at) (stopAt s at) refl (o .stop) (o .few))
-      (empty-is s (d - 1) (stopAt s at) (stopAt s at) refl ∙ no-inner (statementAt s d at) (rw q l) (rw q a) (rw q b) (rw q c) (rw q h)) (λ x. absurd (n x)) (λ x y z. refl))
+      let b = bounds s d at (length s) aStatement f in
+      let a : (j : ℕ) → (k ≡ j → ⊥) → statementKind (statementAt s d at) ≡ j → ⊥ = λ j w x. w (sym q ∙ x) in
+      subst InnerFrom (sym es) (inner-of (stopAt s at) (b .head) (empty-fine s (d - 1) (stopAt s at) (stopAt s at) refl (b .stop) (b .few))
+      (empty-is s (d - 1) (stopAt s at) (stopAt s at) refl
+      ∙ no-inner (statementAt s d at) (rw q l) (a 64 m) (a 70 p) (a 71 (λ x. n (inl x))) (a 73 (λ x. n (inr x))))
+      (record { blocks = λ x. absurd (m x); loops = λ x. absurd (p x); sides = λ x. absurd (n x); none = λ x y z. refl }))
 
 -- A statement by what it holds
-module _ (s : List ℕ) (d at : ℕ) (f : FineRecord s d at (length s) aStatement) (i : Inner) (o : InnerOf s d at i) where
+module _ (s : List ℕ) (d at : ℕ) (f : FineRecord s d at (length s) aStatement) (i : Entered) (o : InnerOf s (record { at = at; depth = d }) i) where
   kind-is : (j : ℕ) → i .kind ≡ j → kindAt s at ≡ j
   kind-is j e = sym (o .kinds) ∙ e
 
@@ -247,36 +291,57 @@ module _ (s : List ℕ) (d at : ℕ) (f : FineRecord s d at (length s) aStatemen
       → (r : Bool) → r ≡ doAllPathsDiverge (statementsAt s (d - 1) (i .start) (i .stop)) → r ≡ doAllPathsDiverge (statementAt s d at)
   breaking-diverges e b eb n r er = ap (λ (c : Bool). not c || r) (sym n) ∙ loop-diverges e b r eb er
 
-  -- an if by what its sides do
+  -- the statements that it holds, as `children` answers them
+  module _ {c : Nodes} (q : c ≡ childrenOf i) where
+    held : c ≡ record { from = i .start; end = i .stop; depth = d - 1 }
+    held = q ∙ λ j. record { from = i .start; end = i .stop; depth = o .levels j - 1 }
+
+    pub held-level : c .depth ≡ d - 1
+    held-level j = held j .depth
+
+    pub held-fine : FineNodes s c Statements
+    held-fine = subst (λ (n : Nodes). FineNodes s n Statements) (sym held) (o .fine)
+
+    pub held-is : statementsAt s (c .depth) (c .from) (c .end) ≡ statementsAt s (d - 1) (i .start) (i .stop)
+    held-is j = statementsAt s (held j .depth) (held j .from) (held j .end)
+
+  -- an if by what its sides do; `inside` answers the first
   if-is : i .kind ≡ 73 → IfAt s d at
   if-is e = statement-if s d at (length s) f (kind-is 73 e)
 
-  pub side-fine : i .kind ≡ 73 → FineRecord s (d - 1) (i .start) (length s) aStatement
-  side-fine e = rw (o .sides (inr e)) (if-is e .body)
+  module _ (e : i .kind ≡ 73) {side : Node} (q : side ≡ insideOf i) where
+    pub side-level : side .depth ≡ d - 1
+    side-level = (λ j. q j .depth) ∙ λ j. o .levels j - 1
 
-  pub side-bounds : i .kind ≡ 73 → Bounds s (d - 1) (i .start)
-  side-bounds e = bounds s (d - 1) (i .start) (length s) aStatement (side-fine e)
+    side-place : side .at ≡ secondAt s at
+    side-place = (λ j. q j .at) ∙ o .sides (inr e)
 
-  pub other-fine : i .kind ≡ 73 → (w : ℕ) → w ≡ wordAt s (i .start) → FineList s (d - 1) (i .start + w) (i .stop) Statements
-  other-fine e w ew = rw (ew, o .sides (inr e), o .stops) (sides-of s d at (if-is e) .rest)
+    pub side-fine : FineNode s side aStatement
+    side-fine = rw (side-level, side-place) (if-is e .body)
 
-  sides-diverge : i .kind ≡ 73 → (w : ℕ) → w ≡ wordAt s (i .start) → (b r : Bool) → b ≡ doAllPathsDiverge (statementAt s (d - 1) (i .start))
-      → r ≡ doAllPathsDiverge (statementsAt s (d - 1) (i .start + w) (i .stop)) → b && r ≡ doAllPathsDiverge (statementAt s d at)
-  sides-diverge e w ew b r eb er =
-      let x : b ≡ doAllPathsDiverge (statementAt s (d - 1) (secondAt s at)) = eb ∙ ap (λ (p : ℕ). doAllPathsDiverge (statementAt s (d - 1) p)) (o .sides (inr e)) in
-      let p : i .start + w ≡ thirdAt s at = ap (λ (y : ℕ). i .start + y) ew ∙ ap (λ (y : ℕ). stopAt s y) (o .sides (inr e)) in
-      let y : r ≡ doAllPathsDiverge (statementsAt s (d - 1) (thirdAt s at) (stopAt s at)) =
-      er ∙ λ j. doAllPathsDiverge (statementsAt s (d - 1) (p j) (o .stops j)) in
-      (λ j. x j && y j) ∙ sym (sides-of s d at (if-is e) .diverge)
+    pub side-bounds : Bounds s (side .depth) (side .at)
+    side-bounds = bounds s (side .depth) (side .at) (length s) aStatement side-fine
 
-  pub side-goes-on : i .kind ≡ 73 → (w : ℕ) → w ≡ wordAt s (i .start) → (b : Bool) → b ≡ doAllPathsDiverge (statementAt s (d - 1) (i .start)) → b ≡ false → false ≡ doAllPathsDiverge (statementAt s d at)
-  side-goes-on e w ew b eb n =
-      let r = doAllPathsDiverge (statementsAt s (d - 1) (i .start + w) (i .stop)) in
-      ap (λ (c : Bool). c && r) (sym n) ∙ sides-diverge e w ew b r eb refl
+    pub other-fine : (w : ℕ) → w ≡ wordAt s (side .at) → FineList s (side .depth) (side .at + w) (i .stop) Statements
+    other-fine w ew = rw (ew, side-level, side-place, o .stops) (sides-of s d at (if-is e) .rest)
 
-  pub both-diverge : i .kind ≡ 73 → (w : ℕ) → w ≡ wordAt s (i .start) → (b : Bool) → b ≡ doAllPathsDiverge (statementAt s (d - 1) (i .start)) → b ≡ true
-      → (r : Bool) → r ≡ doAllPathsDiverge (statementsAt s (d - 1) (i .start + w) (i .stop)) → r ≡ doAllPathsDiverge (statementAt s d at)
-  both-diverge e w ew b eb n r er = ap (λ (c : Bool). c && r) (sym n) ∙ sides-diverge e w ew b r eb er
+    module _ (b : Bool) (eb : b ≡ doAllPathsDiverge (statementAt s (side .depth) (side .at))) where
+      sides-diverge : (w : ℕ) → w ≡ wordAt s (side .at) → (r : Bool) → r ≡ doAllPathsDiverge (statementsAt s (side .depth) (side .at + w) (i .stop)) → b && r ≡ doAllPathsDiverge (statementAt s d at)
+      sides-diverge w ew r er =
+          let p : side .at + w ≡ thirdAt s at = ap (λ (y : ℕ). side .at + y) ew ∙ ap (λ (y : ℕ). stopAt s y) side-place in
+          let x : b ≡ doAllPathsDiverge (statementAt s (d - 1) (secondAt s at)) = eb ∙ λ j. doAllPathsDiverge (statementAt s (side-level j) (side-place j)) in
+          let y : r ≡ doAllPathsDiverge (statementsAt s (d - 1) (thirdAt s at) (stopAt s at)) =
+          er ∙ λ j. doAllPathsDiverge (statementsAt s (side-level j) (p j) (o .stops j)) in
+          (λ j. x j && y j) ∙ sym (sides-of s d at (if-is e) .diverge)
+
+      pub side-goes-on : b ≡ false → false ≡ doAllPathsDiverge (statementAt s d at)
+      side-goes-on n =
+          let w = wordAt s (side .at) in
+          let r = doAllPathsDiverge (statementsAt s (side .depth) (side .at + w) (i .stop)) in
+          ap (λ (c : Bool). c && r) (sym n) ∙ sides-diverge w refl r refl
+
+      pub both-diverge : b ≡ true → (w : ℕ) → w ≡ wordAt s (side .at) → (r : Bool) → r ≡ doAllPathsDiverge (statementsAt s (side .depth) (side .at + w) (i .stop)) → r ≡ doAllPathsDiverge (statementAt s d at)
+      both-diverge n w ew r er = ap (λ (c : Bool). c && r) (sym n) ∙ sides-diverge w ew r er
 
   pub others-diverge : (i .kind ≡ 69 → ⊥) → (i .kind ≡ 70 → ⊥) → (i .kind ≡ 73 → ⊥) → (r : Bool) → r ≡ doAllPathsDiverge (statementsAt s (d - 1) (i .start) (i .stop)) → r ≡ doAllPathsDiverge (statementAt s d at)
   others-diverge a b c r e = e ∙ ap doAllPathsDiverge (o .members) ∙ sym (diverge-inner (statementAt s d at) (kind-not 69 a) (kind-not 70 b) (kind-not 73 c))

@@ -1,73 +1,86 @@
-// `do_all_paths_diverge`: whether no path through a statement goes on after it. `find_break` is `find_statement`, looking for a break.
+// `do_all_paths_diverge`: whether no path through a statement goes on after it. `find_break` is `find_statement`,
+// looking for a break.
+use node::bytes::FIELD_END;
+use node::bytes::HEAD_END;
+use node::bytes::KIND;
 use node::bytes::half;
 use node::bytes::length_at;
+use node::fine::Entered;
+use node::fine::Node;
+use node::fine::Nodes;
+use node::fine::children;
+use node::fine::inside;
+use shape::kinds::BLOCK;
+use shape::kinds::BREAK;
+use shape::kinds::IF_STATEMENT;
+use shape::kinds::LOOP;
+use shape::kinds::RETURN;
+use shape::kinds::WHILE;
 ghost use mathlib.Core.Path.{_≡_};
-ghost use lib.ListN.{length};
+ghost use Rattle.contract.specs.Moments.{old};
 ghost use Rattle.shape.specs.Shape.{aStatement};
 ghost use Rattle.shape.specs.declared.Holds.the-variants.{Statements};
-ghost use Rattle.node.specs.Fine.{FineRecord, FineList};
+ghost use Rattle.node.specs.Layout.{kindAt, stopAt};
+ghost use Rattle.node.specs.Fine.{FineNode, FineNodes};
 ghost use Rattle.node.specs.Record.{statementAt, statementsAt};
 ghost use Rattle.meaning.specs.Divergence.{findBreak, doAllPathsDiverge};
-ghost use Rattle.divergence.specs.InnerStatements.{InnerOf};
+ghost use Rattle.divergence.specs.InnerStatements.{InnerOf, headOf};
 
-// A statement's kind, and where the statements that it holds start and stop.
-pub struct Inner {
-    pub kind: u32,
-    pub start: usize,
-    pub stop: usize,
-}
-
-// The statements that the statement at `at` holds: the condition of a while or an if comes before them.
-pub fn inner_statements(s: &[u8], at: usize, depth: usize) -> Inner
-    requires { ⌜ FineRecord (now s) depth at (length (now s)) aStatement ⌝ }
-    ensures { λ r. ⌜ InnerOf (now (s .entry)) depth at r ⌝ }
+// Where the statements start that a statement of a kind holds, or else its stop: the condition of a while or an if comes
+// before them.
+fn inner_start(s: &[u8], node: Node, kind: u32, stop: usize) -> usize
+    requires { ⌜ FineNode (now s) node aStatement ⌝ }
+    requires { ⌜ (kind ≡ kindAt (now s) (node .at)) × (stop ≡ stopAt (now s) (node .at)) ⌝ }
+    ensures { λ r. ⌜ InnerOf (old s) node (headOf node kind r stop) ⌝ }
 {
-    let kind = half(s, at + 4);
-    let stop = at + length_at(s, at);
+    let at = node.at;
     match kind {
-        64 => Inner {
-            kind,
-            start: at + 20,
-            stop,
-        },
-        70 => Inner {
-            kind,
-            start: at + 16,
-            stop,
-        },
-        71 | 73 => Inner {
-            kind,
-            start: at + 16 + length_at(s, at + 16),
-            stop,
-        },
-        _ => Inner {
-            kind,
-            start: stop,
-            stop,
-        },
+        BLOCK => at + FIELD_END,
+        LOOP => at + HEAD_END,
+        WHILE | IF_STATEMENT => at + HEAD_END + length_at(s, at + HEAD_END),
+        _ => stop,
     }
 }
 
-// Whether the statement at `at` is a break, or holds one at any depth.
-pub fn find_break(s: &[u8], at: usize, depth: usize) -> bool
-    requires { ⌜ FineRecord (now s) depth at (length (now s)) aStatement ⌝ }
-    ensures { λ r. ⌜ r ≡ findBreak (statementAt (now (s .entry)) depth at) ⌝ }
+// A statement with its kind; as its start and its stop, those of the statements that it holds.
+pub fn inner_statements(s: &[u8], node: Node) -> Entered
+    requires { ⌜ FineNode (now s) node aStatement ⌝ }
+    ensures { λ r. ⌜ InnerOf (old s) node r ⌝ }
 {
-    let inner = inner_statements(s, at, depth);
-    if inner.kind == 72 {
+    let at = node.at;
+    let kind = half(s, at + KIND);
+    let stop = at + length_at(s, at);
+    Entered {
+        at,
+        depth: node.depth,
+        kind,
+        start: inner_start(s, node, kind, stop),
+        stop,
+    }
+}
+
+// Whether a statement is a break, or holds one at any depth.
+pub fn find_break(s: &[u8], node: Node) -> bool
+    requires { ⌜ FineNode (now s) node aStatement ⌝ }
+    ensures { λ r. ⌜ r ≡ findBreak (statementAt (old s) (node .depth) (node .at)) ⌝ }
+{
+    let inner = inner_statements(s, node);
+    if inner.kind == BREAK {
         return true;
     }
-    find_break_in(s, inner.start, inner.stop, depth - 1)
+    find_break_in(s, children(inner))
 }
 
-// The same for the statements from `from` to `end`.
-fn find_break_in(s: &[u8], from: usize, end: usize, depth: usize) -> bool
-    requires { ⌜ FineList (now s) depth from end Statements ⌝ }
-    ensures { λ r. ⌜ r ≡ findBreak (statementsAt (now (s .entry)) depth from end) ⌝ }
+// The same for statements.
+fn find_break_in(s: &[u8], statements: Nodes) -> bool
+    requires { ⌜ FineNodes (now s) statements Statements ⌝ }
+    ensures { λ r. ⌜ r ≡ findBreak (statementsAt (old s) (statements .depth) (statements .from) (statements .end)) ⌝ }
 {
-    let mut at = from;
-    while at < end {
-        if find_break(s, at, depth) {
+    let depth = statements.depth;
+    let mut at = statements.from;
+    while at < statements.end {
+        let node = Node { at, depth };
+        if find_break(s, node) {
             return true;
         }
         at = at + length_at(s, at);
@@ -75,43 +88,49 @@ fn find_break_in(s: &[u8], from: usize, end: usize, depth: usize) -> bool
     false
 }
 
-// Whether no path through the statement at `at` goes on after it.
-pub fn do_all_paths_diverge(s: &[u8], at: usize, depth: usize) -> bool
-    requires { ⌜ FineRecord (now s) depth at (length (now s)) aStatement ⌝ }
-    ensures { λ r. ⌜ r ≡ doAllPathsDiverge (statementAt (now (s .entry)) depth at) ⌝ }
+// Whether no path through a statement goes on after it.
+pub fn do_all_paths_diverge(s: &[u8], node: Node) -> bool
+    requires { ⌜ FineNode (now s) node aStatement ⌝ }
+    ensures { λ r. ⌜ r ≡ doAllPathsDiverge (statementAt (old s) (node .depth) (node .at)) ⌝ }
 {
-    let inner = inner_statements(s, at, depth);
+    let inner = inner_statements(s, node);
     let kind = inner.kind;
-    let start = inner.start;
-    let stop = inner.stop;
+    let statements = children(inner);
     match kind {
-        69 => true,
-        70 => {
-            if find_break_in(s, start, stop, depth - 1) {
-                return any_path_diverges(s, start, stop, depth - 1);
+        RETURN => true,
+        LOOP => {
+            if find_break_in(s, statements) {
+                return any_path_diverges(s, statements);
             }
             true
         }
-        73 => {
-            // Without an else nothing is left after the first side.
-            let other = start + length_at(s, start);
-            if do_all_paths_diverge(s, start, depth - 1) {
-                return any_path_diverges(s, other, stop, depth - 1);
+        IF_STATEMENT => {
+            let side = inside(inner);
+            if do_all_paths_diverge(s, side) {
+                // Without an else nothing is left after the first side.
+                let from = side.at + length_at(s, side.at);
+                let end = inner.stop;
+                let depth = side.depth;
+                let other = Nodes { from, end, depth };
+                return any_path_diverges(s, other);
             }
             false
         }
-        _ => any_path_diverges(s, start, stop, depth - 1),
+        _ => any_path_diverges(s, statements),
     }
 }
 
-// Whether one of the statements from `from` to `end` diverges.
-fn any_path_diverges(s: &[u8], from: usize, end: usize, depth: usize) -> bool
-    requires { ⌜ FineList (now s) depth from end Statements ⌝ }
-    ensures { λ r. ⌜ r ≡ doAllPathsDiverge (statementsAt (now (s .entry)) depth from end) ⌝ }
+// Whether one of the statements diverges.
+fn any_path_diverges(s: &[u8], statements: Nodes) -> bool
+    requires { ⌜ FineNodes (now s) statements Statements ⌝ }
+    ensures { λ r. ⌜ r ≡ doAllPathsDiverge
+        (statementsAt (old s) (statements .depth) (statements .from) (statements .end)) ⌝ }
 {
-    let mut at = from;
-    while at < end {
-        if do_all_paths_diverge(s, at, depth) {
+    let depth = statements.depth;
+    let mut at = statements.from;
+    while at < statements.end {
+        let node = Node { at, depth };
+        if do_all_paths_diverge(s, node) {
             return true;
         }
         at = at + length_at(s, at);

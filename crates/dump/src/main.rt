@@ -1,20 +1,19 @@
-// Prints all that the checker finds in the module on standard input: a line for each row, each slot and each error, or why it is turned back.
+// Prints all that the checker finds in the module on standard input: a line for each row, each slot and each error, or
+// why it is turned back.
+use fallible::ERROR_WIDTH;
 use libc::STDIN_FILENO;
+use node::bytes::FIELD;
 use node::bytes::word;
-use programs::print::print_number;
-use programs::print::print_refused;
-use programs::print::print_text;
-use programs::print::print_word;
-use programs::print::print_words;
-use programs::slots::FIELD;
-use programs::slots::next_record;
-use programs::slots::slot_place;
+use program_support::loans;
+use program_support::print::print_number;
+use program_support::print::print_refused;
+use program_support::print::print_text;
+use program_support::print::print_word;
+use program_support::print::print_words;
+use program_support::slots::next_record;
+use program_support::slots::slot_place;
+use rows::ROW_WIDTH;
 use type_check::Answer;
-
-// Words of a row, and of an error.
-const ROW_WIDTH: usize = 4;
-
-const ERROR_WIDTH: usize = 7;
 
 // `row NUMBER KIND FIRST SECOND NAME`
 fn print_row(rows: &[u32], i: usize) {
@@ -91,11 +90,11 @@ fn print_accepted(
 }
 
 fn main() {
-    let mut input = [0u8; 65537];
-    let mut output = [0u8; 65536];
-    let mut rows = [0u32; 12000];
-    let mut errors = [0u32; 14000];
-    let mut work = [0u32; 16376];
+    let mut input = [0u8; loans::INPUT];
+    let mut output = [0u8; loans::OUTPUT];
+    let mut rows = [0u32; loans::ROWS];
+    let mut errors = [0u32; loans::ERRORS];
+    let mut work = [0u32; loans::WORK];
     let n = io::read_full(STDIN_FILENO, &mut input);
     let answer = type_check::type_check_module(
         &input[..n],

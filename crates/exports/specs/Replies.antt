@@ -10,38 +10,38 @@ use Rattle.relations.specs.Entry.{Answers, Measures}
 use Rattle.relations.specs.declared.WordSize.{WordSize}
 
 -- The number of the refusal, or 0
-abbrev pub numberOf : {A : Type 0} → Outcome A → ℕ
-numberOf (refused number place) = number
-numberOf (accepted a) = 0
+abbrev pub refusalNumber : {A : Type 0} → Outcome A → ℕ
+refusalNumber (refused number place) = number
+refusalNumber (accepted a) = 0
 
 -- The place returned, or 0
-abbrev pub placeOf : {A : Type 0} → Outcome A → ℕ
-placeOf (refused number place) = place
-placeOf (accepted a) = 0
+abbrev pub refusalPlace : {A : Type 0} → Outcome A → ℕ
+refusalPlace (refused number place) = place
+refusalPlace (accepted a) = 0
 
 -- A value of an accepted call, or 0
 abbrev pub valueOf : {A : Type 0} → (A → ℕ) → Outcome A → ℕ
 valueOf value (refused number place) = 0
 valueOf value (accepted a) = value a
 
--- The four numbers told of a module
-pub record Told : Type 0 where
+-- The four numbers that a caller is told of a module
+pub record Reply : Type 0 where
   pub number : ℕ
   pub rows : ℕ
   pub errors : ℕ
   pub place : ℕ
 
-abbrev pub told : (number rows errors place : ℕ) → Told
-told number rows errors place = record { number = number; rows = rows; errors = errors; place = place }
+abbrev pub reply : (number rows errors place : ℕ) → Reply
+reply number rows errors place = record { number = number; rows = rows; errors = errors; place = place }
 
 -- An answer of the check in numbers: the row and error counts, or the number and the place of the refusal
-abbrev pub toldOf : Outcome Counts → Told
-toldOf o = told (numberOf o) (valueOf (λ c. c .rows) o) (valueOf (λ c. c .errors) o) (placeOf o)
+abbrev pub replyOf : Outcome Counts → Reply
+replyOf o = reply (refusalNumber o) (valueOf (λ c. c .rows) o) (valueOf (λ c. c .errors) o) (refusalPlace o)
 
 -- The whole promise of the check, and its answer in numbers
-pub record ModuleTold (input : List ℕ) (before after : Buffers) (t : Told) : Type 0 where
+pub record ModuleTold (input : List ℕ) (before after : Buffers) (t : Reply) : Type 0 where
   pub checked : Checked input before after (answerOf input (lengthsOf before))
-  pub tells : t ≡ toldOf (answerOf input (lengthsOf before))
+  pub tells : t ≡ replyOf (answerOf input (lengthsOf before))
 
 -- Yes is 1, no is 0
 abbrev pub asNumber : Bool → ℕ
@@ -51,10 +51,10 @@ asNumber b = cond b 1 0
 pub record AnswerTold (w : List ℕ) (count m n : ℕ) (value : Bool) (number answer : ℕ) : Type 0 where
   pub outcome : Outcome Bool
   pub answers : Answers w count m n value outcome
-  pub tells : (number ≡ numberOf outcome) × (answer ≡ valueOf asNumber outcome)
+  pub tells : (number ≡ refusalNumber outcome) × (answer ≡ valueOf asNumber outcome)
 
 -- The promise of words holds of an outcome, which is told by its number and its size as one word
 pub record SizeTold (w : List ℕ) (count n : ℕ) (work work′ : List ℕ) (number size : ℕ) : Type 0 where
   pub outcome : Outcome WordSize
   pub measures : Measures w count n work work′ outcome
-  pub tells : (number ≡ numberOf outcome) × (size ≡ valueOf asWord outcome)
+  pub tells : (number ≡ refusalNumber outcome) × (size ≡ valueOf asWord outcome)

@@ -1,21 +1,20 @@
-// The entries for C and Rust callers: numbers and slices alone, a slice as a pointer and then a length. Each returns 0 if the call is
-// accepted, else the number of the refusal, and writes every value it answers through a `&mut`; a value that the answer has not is 0.
-// Nothing is asked of the caller but what `&` and `&mut` mean.
+// The entries for C and Rust callers: numbers and slices alone, a slice as a pointer and then a length. Each returns 0
+// if the call is accepted, else the number of the refusal, and writes every value it answers through a `&mut`; a value
+// that the answer has not is 0. Nothing is asked of the caller but what `&` and `&mut` mean.
 use relations::Measured;
+use relations::TOO_LARGE_WORD;
+use relations::UNKNOWN_WORD;
 use relations::WordSize;
 use type_check::Answer;
 ghost use mathlib.Core.Path.{_≡_};
+ghost use Rattle.contract.specs.Moments.{old, final};
 ghost use Rattle.types.specs.Table.{unfolded};
 ghost use Rattle.relations.specs.Relations.{typesAreAssignable, isCastableTo};
 ghost use Rattle.relations.specs.WordSize.{asWord};
-ghost use Rattle.relations.specs.Entry.{outcomeOf, measuredOf};
-ghost use Rattle.type_check.specs.Post.{buffers};
-ghost use Rattle.exports.specs.Replies.{ModuleTold, AnswerTold, SizeTold, told, numberOf, valueOf, asNumber};
-
-// What is written for a size that is no number of words, as in the working words.
-const TOO_LARGE: u32 = 65536;
-
-const UNKNOWN: u32 = 65537;
+ghost use Rattle.relations.specs.Entry.{answeredOf, measuredOf};
+ghost use Rattle.type_check.specs.Post.{buffersBefore, buffersAfter};
+ghost use Rattle.exports.specs.Replies.{ModuleTold, AnswerTold, SizeTold, reply, refusalNumber, valueOf};
+ghost use Rattle.exports.specs.Replies.{asNumber};
 
 // Checks a module: `type_check_module` of the crate type_check.
 #[no_mangle]
@@ -29,7 +28,10 @@ pub extern "C" fn delta_null_type_check_module(
     error_count: &mut usize,
     place: &mut usize,
 ) -> u32
-    ensures { λ r. ⌜ ModuleTold (now (input .entry)) (buffers (now (output .entry)) (now (rows .entry)) (now (errors .entry)) (now (work .entry))) (buffers (now (output .exit)) (now (rows .exit)) (now (errors .exit)) (now (work .exit))) (told r (now («row_count» .exit)) (now («error_count» .exit)) (now (place .exit))) ⌝ }
+    ensures { λ r. ⌜ ModuleTold (old input)
+        (buffersBefore output rows errors work)
+        (buffersAfter output rows errors work)
+        (reply r (final «row_count») (final «error_count») (final place)) ⌝ }
 {
     let answer = type_check::type_check_module(input, output, rows, errors, work);
     match answer {
@@ -60,7 +62,7 @@ fn yes_word(yes: bool) -> u32
 
 // The number of an answer of yes or no, which is written as 1 or 0.
 fn put_answer(given: relations::Answer, answer: &mut u32) -> u32
-    ensures { λ r. ⌜ (r ≡ numberOf (outcomeOf given)) × (now (answer .exit) ≡ valueOf asNumber (outcomeOf given)) ⌝ }
+    ensures { λ r. ⌜ (r ≡ refusalNumber (answeredOf given)) × (final answer ≡ valueOf asNumber (answeredOf given)) ⌝ }
 {
     match given {
         relations::Answer::Is(yes) => {
@@ -83,7 +85,8 @@ pub extern "C" fn delta_null_assignable(
     source: u32,
     answer: &mut u32,
 ) -> u32
-    ensures { λ r. ⌜ AnswerTold (now (rows .entry)) count target source (typesAreAssignable (unfolded (now (rows .entry)) target) (unfolded (now (rows .entry)) source)) r (now (answer .exit)) ⌝ }
+    ensures { λ r. ⌜ AnswerTold (old rows) count target source
+        (typesAreAssignable (unfolded (old rows) target) (unfolded (old rows) source)) r (final answer) ⌝ }
 {
     put_answer(relations::assignable(rows, count, target, source), answer)
 }
@@ -97,7 +100,8 @@ pub extern "C" fn delta_null_castable(
     target: u32,
     answer: &mut u32,
 ) -> u32
-    ensures { λ r. ⌜ AnswerTold (now (rows .entry)) count source target (isCastableTo (unfolded (now (rows .entry)) source) (unfolded (now (rows .entry)) target)) r (now (answer .exit)) ⌝ }
+    ensures { λ r. ⌜ AnswerTold (old rows) count source target
+        (isCastableTo (unfolded (old rows) source) (unfolded (old rows) target)) r (final answer) ⌝ }
 {
     put_answer(relations::castable(rows, count, source, target), answer)
 }
@@ -108,14 +112,14 @@ fn size_word(size: WordSize) -> u32
 {
     match size {
         WordSize::Words(words) => words,
-        WordSize::TooLarge => TOO_LARGE,
-        WordSize::Unknown => UNKNOWN,
+        WordSize::TooLarge => TOO_LARGE_WORD,
+        WordSize::Unknown => UNKNOWN_WORD,
     }
 }
 
 // The number of an answer of a size, which is written as one word.
 fn put_size(given: Measured, size: &mut u32) -> u32
-    ensures { λ r. ⌜ (r ≡ numberOf (measuredOf given)) × (now (size .exit) ≡ valueOf asWord (measuredOf given)) ⌝ }
+    ensures { λ r. ⌜ (r ≡ refusalNumber (measuredOf given)) × (final size ≡ valueOf asWord (measuredOf given)) ⌝ }
 {
     match given {
         Measured::Size(found) => {
@@ -142,7 +146,7 @@ pub extern "C" fn delta_null_word_size(
     work: &mut [u32],
     size: &mut u32,
 ) -> u32
-    ensures { λ r. ⌜ SizeTold (now (rows .entry)) count n (now (work .entry)) (now (work .exit)) r (now (size .exit)) ⌝ }
+    ensures { λ r. ⌜ SizeTold (old rows) count n (old work) (final work) r (final size) ⌝ }
 {
     put_size(relations::words(rows, count, n, work), size)
 }

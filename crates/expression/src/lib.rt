@@ -1,93 +1,84 @@
 // `type_check_expression`: the type that an expression carries, its errors, and its slots.
+use call_rules::call_result;
 use convert::Pass;
+use convert::convert_node_type;
+use expression_rules::binary;
+use expression_rules::identifier;
+use expression_rules::integer;
+use expression_rules::unary;
+use node::bytes::FIELD_END;
 use node::bytes::length_at;
 use node::fine::Entered;
+use node::fine::Node;
+use node::fine::Nodes;
 use node::fine::enter;
 use node::names::BuiltIns;
 use shape::EXPRESSION;
-use state::State;
-use state::Typed;
+use shape::kinds::BOOLEAN;
+use shape::kinds::BOOLEAN_NOT;
+use shape::kinds::CALL;
+use shape::kinds::CAST;
+use shape::kinds::IDENTIFIER;
+use shape::kinds::INTEGER;
+use shape::kinds::POINTER_TAKE;
+use shape::kinds::SIZEOF;
+use shape::kinds::STRING;
+use walk::State;
+use walk::Typed;
+use walk::put_slot;
 ghost use mathlib.Core.Path.{_≡_};
-ghost use Prim.Native.Nat.{_≤_};
+ghost use Prim.Native.Nat.{_*_, _≤_};
 ghost use lib.ListN.{length};
-ghost use Rattle.shape.specs.Shape.{anExpression};
+ghost use Rattle.contract.specs.Moments.{old, final};
+ghost use Rattle.shape.specs.Kinds as kinds;
+ghost use Rattle.shape.specs.Shape.{isBetween, anExpression};
 ghost use Rattle.shape.specs.declared.Holds.the-variants.{Expressions};
+ghost use Rattle.node.specs.Names.{nameCount};
 ghost use Rattle.node.specs.Layout.{kindAt};
-ghost use Rattle.node.specs.Fine.{FineRecord, FineList};
-ghost use Rattle.node.specs.Record.{expressionsAt};
-ghost use Rattle.state.specs.Represents.{lent};
+ghost use Rattle.node.specs.Fine.{FineNode, FineNodes, nodeOf};
+ghost use Rattle.meaning.specs.Promise.{workWidth};
+ghost use Rattle.walk.specs.Moments.{given, before, after};
 ghost use Rattle.convert.specs.Post.{Ready};
-ghost use Rattle.expression.specs.Post.{OneOperand, TwoOperands, CarriedAt, CarriedAll};
-
-// The kinds of the records of expressions. Those up to 35 have no parts; operators on one operand have 39 to 43, on two 37 and 44 to 46.
-const IDENTIFIER: u32 = 32;
-
-const INTEGER: u32 = 33;
-
-const BOOLEAN: u32 = 34;
-
-const STRING: u32 = 35;
-
-const CALL: u32 = 36;
-
-const INDEX: u32 = 37;
-
-const CAST: u32 = 38;
-
-const BOOLEAN_NOT: u32 = 43;
-
-const SIZEOF: u32 = 47;
-
-// The row of String.
-const STRING_ROW: u32 = 7;
-
-// Bytes of a record before its parts, where its slot is its only field.
-const PARTS: usize = 20;
+ghost use Rattle.expression.specs.Post.{LeafIn, OneOperandIn, TwoOperandsIn, LeafCarried, CarriedNode};
+ghost use Rattle.expression.specs.Post.{CarriedNodes};
 
 // An expression without parts.
 fn leaf(
     s: &[u8],
-    names: BuiltIns,
     work: &[u32],
-    at: usize,
-    depth: usize,
+    node: Node,
     kind: u32,
     output: &mut [u8],
     errors: &mut [u32],
-    rows: &[u32],
-    buckets: &[u16; lookup::LENGTH],
     state: State,
 ) -> Typed
-    requires { ⌜ FineRecord (now s) depth at (length (now s)) anExpression × (kind ≡ kindAt (now s) at) × (kind ≤ 35) ⌝ }
-    requires { ⌜ Ready (now s) (lent (now work) (now output) (now errors) (now rows) (now buckets) state) ⌝ }
-    ensures { λ r. ⌜ CarriedAt (now (s .entry)) names depth at (lent (now (work .entry)) (now (output .entry)) (now (errors .entry)) (now (rows .entry)) (now (buckets .entry)) state) (lent (now (work .entry)) (now (output .exit)) (now (errors .exit)) (now (rows .entry)) (now (buckets .entry)) (r .state)) (r .ty) ⌝ }
+    requires { ⌜ LeafIn (now s) node kind ⌝ }
+    requires { ⌜ (length (now s) ≤ length (now output)) × (workWidth * nameCount (now s) ≤ length (now work)) ⌝ }
+    ensures { λ r. ⌜ LeafCarried (old s) node (old work)
+        (old output) (old errors) state
+        (final output) (final errors) r ⌝ }
 {
+    let at = node.at;
     match kind {
         IDENTIFIER => {
-            let typed = rules::identifier(s, work, at, errors, state);
-            let ty = typed.ty;
-            state::put_slot(output, at, ty);
+            let typed = identifier(s, work, at, errors, state);
+            put_slot(output, at, typed.ty);
             typed
         }
         INTEGER => {
-            let typed = rules::integer(s, at, errors, state);
-            let ty = typed.ty;
-            state::put_slot(output, at, ty);
+            let typed = integer(s, at, errors, state);
+            put_slot(output, at, typed.ty);
             typed
         }
         BOOLEAN => {
-            state::put_slot(output, at, types::BOOL);
-            Typed {
-                ty: types::BOOL,
-                state,
-            }
+            let ty = types::BOOL;
+            put_slot(output, at, ty);
+            Typed { ty, state }
         }
         _ => {
-            state::put_slot(output, at, STRING_ROW);
-            Typed {
-                ty: STRING_ROW,
-                state,
-            }
+            let ty = types::STRING;
+            put_slot(output, at, ty);
+            Typed { ty, state }
         }
     }
 }
@@ -97,151 +88,72 @@ fn sizeof(
     s: &[u8],
     names: BuiltIns,
     work: &[u32],
-    at: usize,
-    depth: usize,
+    node: Node,
     output: &mut [u8],
     errors: &mut [u32],
     rows: &mut [u32],
-    buckets: &mut [u16; lookup::LENGTH],
+    index: &mut [u16; row_index::LENGTH],
     state: State,
 ) -> Typed
-    requires { ⌜ FineRecord (now s) depth at (length (now s)) anExpression × (kindAt (now s) at ≡ 47) ⌝ }
-    requires { ⌜ Ready (now s) (lent (now work) (now output) (now errors) (now rows) (now buckets) state) ⌝ }
-    ensures { λ r. ⌜ CarriedAt (now (s .entry)) names depth at (lent (now (work .entry)) (now (output .entry)) (now (errors .entry)) (now (rows .entry)) (now (buckets .entry)) state) (lent (now (work .entry)) (now (output .exit)) (now (errors .exit)) (now (rows .exit)) (now (buckets .exit)) (r .state)) (r .ty) ⌝ }
+    requires { ⌜ FineNode (now s) node anExpression × (kindAt (now s) (node .at) ≡ kinds.sizeof) ⌝ }
+    requires { ⌜ Ready (now s) (given work output errors rows index state) ⌝ }
+    ensures { λ r. ⌜ CarriedNode (old s) names node
+        (before work output errors rows index state)
+        (after work output errors rows index (r .state)) (r .ty) ⌝ }
 {
-    let converted = convert::convert_node_type(
-        s,
-        Pass { names, fill: true },
-        work,
-        at + PARTS,
-        depth - 1,
-        output,
-        errors,
-        rows,
-        buckets,
-        state,
-    );
+    let pass = Pass { names, fill: true };
+    let at = node.at + FIELD_END;
+    let depth = node.depth - 1;
+    let inner = Node { at, depth };
+    let converted = convert_node_type(s, pass, work, inner, output, errors, rows, index, state);
     let next = converted.state;
-    state::put_slot(output, at, types::U16);
-    Typed {
-        ty: types::U16,
-        state: next,
-    }
+    let ty = types::U16;
+    put_slot(output, node.at, ty);
+    Typed { ty, state: next }
 }
 
-// The type that the E record at `at` carries, with so many levels left.
+// Whether an operator of a kind has one operand.
+fn has_one_operand(kind: u32) -> bool
+    ensures { λ r. ⌜ r ≡ isBetween kinds.pointerTake kind kinds.booleanNot ⌝ }
+{
+    if kind < POINTER_TAKE {
+        return false;
+    }
+    kind <= BOOLEAN_NOT
+}
+
+// The type that an E record carries.
 pub fn type_check_expression(
     s: &[u8],
     names: BuiltIns,
     work: &[u32],
-    at: usize,
-    depth: usize,
+    node: Node,
     output: &mut [u8],
     errors: &mut [u32],
     rows: &mut [u32],
-    buckets: &mut [u16; lookup::LENGTH],
+    index: &mut [u16; row_index::LENGTH],
     state: State,
 ) -> Typed
-    requires { ⌜ FineRecord (now s) depth at (length (now s)) anExpression ⌝ }
-    requires { ⌜ Ready (now s) (lent (now work) (now output) (now errors) (now rows) (now buckets) state) ⌝ }
-    ensures { λ r. ⌜ CarriedAt (now (s .entry)) names depth at (lent (now (work .entry)) (now (output .entry)) (now (errors .entry)) (now (rows .entry)) (now (buckets .entry)) state) (lent (now (work .entry)) (now (output .exit)) (now (errors .exit)) (now (rows .exit)) (now (buckets .exit)) (r .state)) (r .ty) ⌝ }
+    requires { ⌜ FineNode (now s) node anExpression ⌝ }
+    requires { ⌜ Ready (now s) (given work output errors rows index state) ⌝ }
+    ensures { λ r. ⌜ CarriedNode (old s) names node
+        (before work output errors rows index state)
+        (after work output errors rows index (r .state)) (r .ty) ⌝ }
 {
-    let head = enter(s, at, s.len(), depth, EXPRESSION);
+    let head = enter(s, node, EXPRESSION);
     let kind = head.kind;
     if kind <= STRING {
-        return leaf(
-            s,
-            names,
-            work,
-            at,
-            depth,
-            kind,
-            output,
-            errors,
-            rows,
-            buckets,
-            state,
-        );
+        return leaf(s, work, node, kind, output, errors, state);
     }
     match kind {
-        CALL => call(
-            s,
-            names,
-            work,
-            at,
-            depth,
-            output,
-            errors,
-            rows,
-            buckets,
-            state,
-        ),
-        INDEX => two_operands(
-            s,
-            names,
-            work,
-            at,
-            depth,
-            head,
-            output,
-            errors,
-            rows,
-            buckets,
-            state,
-        ),
-        CAST => cast(
-            s,
-            names,
-            work,
-            at,
-            depth,
-            output,
-            errors,
-            rows,
-            buckets,
-            state,
-        ),
-        SIZEOF => sizeof(
-            s,
-            names,
-            work,
-            at,
-            depth,
-            output,
-            errors,
-            rows,
-            buckets,
-            state,
-        ),
+        CALL => call(s, names, work, node, output, errors, rows, index, state),
+        CAST => cast(s, names, work, node, output, errors, rows, index, state),
+        SIZEOF => sizeof(s, names, work, node, output, errors, rows, index, state),
         _ => {
-            if kind <= BOOLEAN_NOT {
-                return one_operand(
-                    s,
-                    names,
-                    work,
-                    at,
-                    depth,
-                    head,
-                    output,
-                    errors,
-                    rows,
-                    buckets,
-                    state,
-                );
+            if has_one_operand(kind) {
+                return one_operand(s, names, work, head, output, errors, rows, index, state);
             }
-            two_operands(
-                s,
-                names,
-                work,
-                at,
-                depth,
-                head,
-                output,
-                errors,
-                rows,
-                buckets,
-                state,
-            )
+            two_operands(s, names, work, head, output, errors, rows, index, state)
         }
     }
 }
@@ -251,37 +163,26 @@ fn one_operand(
     s: &[u8],
     names: BuiltIns,
     work: &[u32],
-    at: usize,
-    depth: usize,
     head: Entered,
     output: &mut [u8],
     errors: &mut [u32],
     rows: &mut [u32],
-    buckets: &mut [u16; lookup::LENGTH],
+    index: &mut [u16; row_index::LENGTH],
     state: State,
 ) -> Typed
-    requires { ⌜ OneOperand (now s) (head .kind) depth at (head .start) ⌝ }
-    requires { ⌜ Ready (now s) (lent (now work) (now output) (now errors) (now rows) (now buckets) state) ⌝ }
-    ensures { λ r. ⌜ CarriedAt (now (s .entry)) names depth at (lent (now (work .entry)) (now (output .entry)) (now (errors .entry)) (now (rows .entry)) (now (buckets .entry)) state) (lent (now (work .entry)) (now (output .exit)) (now (errors .exit)) (now (rows .exit)) (now (buckets .exit)) (r .state)) (r .ty) ⌝ }
+    requires { ⌜ OneOperandIn (now s) head ⌝ }
+    requires { ⌜ Ready (now s) (given work output errors rows index state) ⌝ }
+    ensures { λ r. ⌜ CarriedNode (old s) names (nodeOf head)
+        (before work output errors rows index state)
+        (after work output errors rows index (r .state)) (r .ty) ⌝ }
 {
-    let first = head.start;
-    let inner = depth - 1;
-    let operand = type_check_expression(
-        s,
-        names,
-        work,
-        first,
-        inner,
-        output,
-        errors,
-        rows,
-        buckets,
-        state,
-    );
+    let at = head.start;
+    let depth = head.depth - 1;
+    let first = Node { at, depth };
+    let operand = type_check_expression(s, names, work, first, output, errors, rows, index, state);
     let next = operand.state;
-    let typed = rules::unary(head.kind, s, at, operand.ty, errors, rows, buckets, next);
-    let ty = typed.ty;
-    state::put_slot(output, at, ty);
+    let typed = unary(head.kind, s, head.at, operand.ty, errors, rows, index, next);
+    put_slot(output, head.at, typed.ty);
     typed
 }
 
@@ -290,61 +191,32 @@ fn two_operands(
     s: &[u8],
     names: BuiltIns,
     work: &[u32],
-    at: usize,
-    depth: usize,
     head: Entered,
     output: &mut [u8],
     errors: &mut [u32],
     rows: &mut [u32],
-    buckets: &mut [u16; lookup::LENGTH],
+    index: &mut [u16; row_index::LENGTH],
     state: State,
 ) -> Typed
-    requires { ⌜ TwoOperands (now s) (head .kind) depth at (head .start) ⌝ }
-    requires { ⌜ Ready (now s) (lent (now work) (now output) (now errors) (now rows) (now buckets) state) ⌝ }
-    ensures { λ r. ⌜ CarriedAt (now (s .entry)) names depth at (lent (now (work .entry)) (now (output .entry)) (now (errors .entry)) (now (rows .entry)) (now (buckets .entry)) state) (lent (now (work .entry)) (now (output .exit)) (now (errors .exit)) (now (rows .exit)) (now (buckets .exit)) (r .state)) (r .ty) ⌝ }
+    requires { ⌜ TwoOperandsIn (now s) head ⌝ }
+    requires { ⌜ Ready (now s) (given work output errors rows index state) ⌝ }
+    ensures { λ r. ⌜ CarriedNode (old s) names (nodeOf head)
+        (before work output errors rows index state)
+        (after work output errors rows index (r .state)) (r .ty) ⌝ }
 {
-    let first = head.start;
-    let inner = depth - 1;
-    let left = type_check_expression(
-        s,
-        names,
-        work,
-        first,
-        inner,
-        output,
-        errors,
-        rows,
-        buckets,
-        state,
-    );
+    let at = head.start;
+    let depth = head.depth - 1;
+    let first = Node { at, depth };
+    let left = type_check_expression(s, names, work, first, output, errors, rows, index, state);
     let middle = left.state;
-    let second = first + length_at(s, first);
-    let right = type_check_expression(
-        s,
-        names,
-        work,
-        second,
-        inner,
-        output,
-        errors,
-        rows,
-        buckets,
-        middle,
-    );
+    let place = at + length_at(s, at);
+    let second = Node { at: place, depth };
+    let right = type_check_expression(s, names, work, second, output, errors, rows, index, middle);
     let next = right.state;
-    let typed = rules::binary(
-        head.kind,
-        s,
-        at,
-        left.ty,
-        second,
-        right.ty,
-        errors,
-        rows,
-        next,
-    );
-    let ty = typed.ty;
-    state::put_slot(output, at, ty);
+    let kind = head.kind;
+    let here = head.at;
+    let typed = binary(kind, s, here, left.ty, place, right.ty, errors, rows, next);
+    put_slot(output, here, typed.ty);
     typed
 }
 
@@ -353,50 +225,32 @@ fn cast(
     s: &[u8],
     names: BuiltIns,
     work: &[u32],
-    at: usize,
-    depth: usize,
+    node: Node,
     output: &mut [u8],
     errors: &mut [u32],
     rows: &mut [u32],
-    buckets: &mut [u16; lookup::LENGTH],
+    index: &mut [u16; row_index::LENGTH],
     state: State,
 ) -> Typed
-    requires { ⌜ FineRecord (now s) depth at (length (now s)) anExpression × (kindAt (now s) at ≡ 38) ⌝ }
-    requires { ⌜ Ready (now s) (lent (now work) (now output) (now errors) (now rows) (now buckets) state) ⌝ }
-    ensures { λ r. ⌜ CarriedAt (now (s .entry)) names depth at (lent (now (work .entry)) (now (output .entry)) (now (errors .entry)) (now (rows .entry)) (now (buckets .entry)) state) (lent (now (work .entry)) (now (output .exit)) (now (errors .exit)) (now (rows .exit)) (now (buckets .exit)) (r .state)) (r .ty) ⌝ }
+    requires { ⌜ FineNode (now s) node anExpression × (kindAt (now s) (node .at) ≡ kinds.cast) ⌝ }
+    requires { ⌜ Ready (now s) (given work output errors rows index state) ⌝ }
+    ensures { λ r. ⌜ CarriedNode (old s) names node
+        (before work output errors rows index state)
+        (after work output errors rows index (r .state)) (r .ty) ⌝ }
 {
-    let first = at + PARTS;
-    let inner = depth - 1;
-    let value = type_check_expression(
-        s,
-        names,
-        work,
-        first,
-        inner,
-        output,
-        errors,
-        rows,
-        buckets,
-        state,
-    );
+    let at = node.at + FIELD_END;
+    let depth = node.depth - 1;
+    let first = Node { at, depth };
+    let value = type_check_expression(s, names, work, first, output, errors, rows, index, state);
     let middle = value.state;
-    let second = first + length_at(s, first);
-    let converted = convert::convert_node_type(
-        s,
-        Pass { names, fill: true },
-        work,
-        second,
-        inner,
-        output,
-        errors,
-        rows,
-        buckets,
-        middle,
-    );
+    let place = at + length_at(s, at);
+    let second = Node { at: place, depth };
+    let pass = Pass { names, fill: true };
+    let converted = convert_node_type(s, pass, work, second, output, errors, rows, index, middle);
     let next = converted.state;
     let ty = converted.ty;
-    let last = rules::cast(s, at, value.ty, ty, errors, rows, next);
-    state::put_slot(output, at, ty);
+    let last = expression_rules::cast(s, node.at, value.ty, ty, errors, rows, next);
+    put_slot(output, node.at, ty);
     Typed { ty, state: last }
 }
 
@@ -405,87 +259,59 @@ fn call(
     s: &[u8],
     names: BuiltIns,
     work: &[u32],
-    at: usize,
-    depth: usize,
+    node: Node,
     output: &mut [u8],
     errors: &mut [u32],
     rows: &mut [u32],
-    buckets: &mut [u16; lookup::LENGTH],
+    index: &mut [u16; row_index::LENGTH],
     state: State,
 ) -> Typed
-    requires { ⌜ FineRecord (now s) depth at (length (now s)) anExpression × (kindAt (now s) at ≡ 36) ⌝ }
-    requires { ⌜ Ready (now s) (lent (now work) (now output) (now errors) (now rows) (now buckets) state) ⌝ }
-    ensures { λ r. ⌜ CarriedAt (now (s .entry)) names depth at (lent (now (work .entry)) (now (output .entry)) (now (errors .entry)) (now (rows .entry)) (now (buckets .entry)) state) (lent (now (work .entry)) (now (output .exit)) (now (errors .exit)) (now (rows .exit)) (now (buckets .exit)) (r .state)) (r .ty) ⌝ }
+    requires { ⌜ FineNode (now s) node anExpression × (kindAt (now s) (node .at) ≡ kinds.call) ⌝ }
+    requires { ⌜ Ready (now s) (given work output errors rows index state) ⌝ }
+    ensures { λ r. ⌜ CarriedNode (old s) names node
+        (before work output errors rows index state)
+        (after work output errors rows index (r .state)) (r .ty) ⌝ }
 {
-    let first = at + PARTS;
-    let inner = depth - 1;
-    let target = type_check_expression(
-        s,
-        names,
-        work,
-        first,
-        inner,
-        output,
-        errors,
-        rows,
-        buckets,
-        state,
-    );
+    let at = node.at + FIELD_END;
+    let depth = node.depth - 1;
+    let first = Node { at, depth };
+    let target = type_check_expression(s, names, work, first, output, errors, rows, index, state);
     let middle = target.state;
-    let from = first + length_at(s, first);
-    let stop = at + length_at(s, at);
-    let next = type_check_expressions(
-        s,
-        names,
-        work,
-        from,
-        stop,
-        inner,
-        output,
-        errors,
-        rows,
-        buckets,
-        middle,
-    );
-    let typed = lists::call_result(s, at, target.ty, from, stop, output, errors, rows, next);
-    let ty = typed.ty;
-    state::put_slot(output, at, ty);
+    let ty = target.ty;
+    let from = at + length_at(s, at);
+    let end = node.at + length_at(s, node.at);
+    let list = Nodes { from, end, depth };
+    let next = type_check_expressions(s, names, work, list, output, errors, rows, index, middle);
+    let typed = call_result(s, node.at, ty, from, end, output, errors, rows, next);
+    put_slot(output, node.at, typed.ty);
     typed
 }
 
-// The expressions from `from` to `end`, one after the other: the types that they carry are in their slots.
+// Some expressions, one after the other: the types that they carry are in their slots.
 pub fn type_check_expressions(
     s: &[u8],
     names: BuiltIns,
     work: &[u32],
-    from: usize,
-    end: usize,
-    depth: usize,
+    list: Nodes,
     output: &mut [u8],
     errors: &mut [u32],
     rows: &mut [u32],
-    buckets: &mut [u16; lookup::LENGTH],
+    index: &mut [u16; row_index::LENGTH],
     state: State,
 ) -> State
-    requires { ⌜ FineList (now s) depth from end Expressions ⌝ }
-    requires { ⌜ Ready (now s) (lent (now work) (now output) (now errors) (now rows) (now buckets) state) ⌝ }
-    ensures { λ r. ⌜ CarriedAll (now (s .entry)) names (expressionsAt (now (s .entry)) depth from end) from end (lent (now (work .entry)) (now (output .entry)) (now (errors .entry)) (now (rows .entry)) (now (buckets .entry)) state) (lent (now (work .entry)) (now (output .exit)) (now (errors .exit)) (now (rows .exit)) (now (buckets .exit)) r) ⌝ }
+    requires { ⌜ FineNodes (now s) list Expressions ⌝ }
+    requires { ⌜ Ready (now s) (given work output errors rows index state) ⌝ }
+    ensures { λ r. ⌜ CarriedNodes (old s) names list
+        (before work output errors rows index state)
+        (after work output errors rows index r) ⌝ }
 {
-    let mut at = from;
+    let end = list.end;
+    let depth = list.depth;
+    let mut at = list.from;
     let mut next = state;
     while at < end {
-        let typed = type_check_expression(
-            s,
-            names,
-            work,
-            at,
-            depth,
-            output,
-            errors,
-            rows,
-            buckets,
-            next,
-        );
+        let node = Node { at, depth };
+        let typed = type_check_expression(s, names, work, node, output, errors, rows, index, next);
         next = typed.state;
         at = at + length_at(s, at);
     }

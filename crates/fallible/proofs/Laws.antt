@@ -10,7 +10,7 @@ use lib.Seq.{sets, length-sets}
 use borrow.Author.Tests.{lt-ltb, le-ltb, ltb-true, ltb-false}
 use Rattle.fallible.specs.declared.Error.{Error}
 use Rattle.fallible.specs.Operands.{errorKinds}
-use Rattle.fallible.specs.Errors.{errorWidth, errorWords, errorOf, errorWord, errorAt, errorsFrom, ErrorList, errorList, room, pushed, pushAll, Listed}
+use Rattle.fallible.specs.Errors.{errorWidth, errorWords, errorOf, errorWord, errorAt, errorsFrom, ErrorList, errorList, room, pushed, pushAll, HoldsErrors}
 use Rattle.fallible.proofs.Stores.{getD-sets-before, getD-sets-after, getD-sets-inside}
 
 -- Document 01 has 29 kinds.
@@ -109,7 +109,7 @@ push-all-past (error ∷ errors) words count i h =
     h
 
 -- Errors are equal where their words are.
-errorOf-same : (f g : ℕ → ℕ) → ((place : ℕ) → place < errorWidth → f place ≡ g place) → errorOf f ≡ errorOf g
+pub errorOf-same : (f g : ℕ → ℕ) → ((place : ℕ) → place < errorWidth → f place ≡ g place) → errorOf f ≡ errorOf g
 errorOf-same f g same =
     λ j.
     record {
@@ -179,7 +179,7 @@ module _ (errors : List Error) (words : List ℕ) where
   pub all-counted : countAfter words 0 errors ≡ min (length errors) (room words + 1)
   all-counted = push-all-count errors words 0 (omega arith) ∙ omega arith
 
-  pub all-listed : length errors ≤ room words → Listed words errors (pushAll (errorList words 0) errors)
+  pub all-listed : length errors ≤ room words → HoldsErrors words errors (pushAll (errorList words 0) errors)
   all-listed h =
       let n : countAfter words 0 errors ≡ length errors = all-counted ∙ omega arith in
       record {

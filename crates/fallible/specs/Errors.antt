@@ -69,7 +69,7 @@ pushAll list [] = list
 pushAll list (error ∷ errors) = pushAll (pushed list error) errors
 
 -- The list holds exactly these errors, and the words past them are as they were.
-pub record Listed (before : List ℕ) (errors : List Error) (list : ErrorList) : Type 0 where
+pub record HoldsErrors (before : List ℕ) (errors : List Error) (list : ErrorList) : Type 0 where
   pub count : list .count ≡ length errors
   pub listed : errorsFrom (list .words) 0 (length errors) ≡ errors
   pub past : (i : ℕ) → errorWidth * length errors ≤ i → getD (list .words) i 0 ≡ getD before i 0

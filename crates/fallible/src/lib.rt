@@ -2,10 +2,11 @@
 pub mod kinds;
 
 ghost use mathlib.Core.Path.{_≡_};
+ghost use Rattle.contract.specs.Moments.{old, final};
 ghost use Rattle.fallible.specs.Errors.{errorList, pushed};
 
 // The words of an error in the list.
-const ERROR_WIDTH: usize = 7;
+pub const ERROR_WIDTH: usize = 7;
 
 // An error: its kind, where it stands, and what its message names; operands that a kind does not use are 0.
 pub struct Error {
@@ -18,10 +19,10 @@ pub struct Error {
     pub third: u32,
 }
 
-// Adds an error to the `count` there are, and returns the new count. An error that finds no room is only counted, and the
-// count stays one past the room.
+// Adds an error to the `count` there are, and returns the new count. An error that finds no room is only counted, and
+// the count stays one past the room.
 pub fn push_error(errors: &mut [u32], count: usize, error: Error) -> usize
-    ensures { λ r. ⌜ errorList (now (errors .exit)) r ≡ pushed (errorList (now (errors .entry)) count) error ⌝ }
+    ensures { λ r. ⌜ errorList (final errors) r ≡ pushed (errorList (old errors) count) error ⌝ }
 {
     let room = errors.len() / ERROR_WIDTH;
     if room <= count {

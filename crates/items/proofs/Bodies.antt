@@ -22,16 +22,16 @@ use Rattle.meaning.specs.Context.{Context}
 use Rattle.meaning.specs.Statement.{statementErrors, statementSlots}
 use Rattle.meaning.specs.Divergence.{doAllPathsDiverge}
 use Rattle.fallible.specs.Operands.{isTypeOperand, operandSort}
-use Rattle.state.specs.declared.State.{State}
-use Rattle.state.specs.Effect.{reporting}
-use Rattle.state.specs.Represents.{Lent, lent, Good, SpellsOperand, Typing}
-use Rattle.state.specs.Post.{Walked}
-use Rattle.state.proofs.Laws.{scope-later, typing-later}
-use Rattle.state.proofs.Walks.{walked-none, walked-as, typing-void}
+use Rattle.walk.specs.declared.State.{State}
+use Rattle.walk.specs.Effect.{reporting}
+use Rattle.walk.specs.Represents.{Lent, lent, Good, SpellsOperand, Typing}
+use Rattle.walk.specs.Post.{Walked}
+use Rattle.walk.proofs.Laws.{scope-later, typing-later}
+use Rattle.walk.proofs.Walks.{walked-none, walked-as, typing-void}
 use Rattle.convert.specs.Post.{Ready, errorFor}
-use Rattle.rules.specs.Rules.{ReportedUnless}
-use Rattle.rules.proofs.Laws.{walked-unless, spells-at}
-use Rattle.rules.proofs.Exits.{same-rows}
+use Rattle.expression_rules.specs.Rules.{ReportedUnless}
+use Rattle.expression_rules.proofs.Laws.{walked-unless, spells-at}
+use Rattle.expression_rules.proofs.Exits.{same-rows}
 use Rattle.expression.proofs.Visits.{visit-steps}
 use Rattle.compound.proofs.Compounds.{told-then}
 use Rattle.statement.specs.Post.{Inside, StatementCheckedAt}

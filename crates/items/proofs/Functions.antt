@@ -23,19 +23,19 @@ use Rattle.meaning.specs.TypeError.{TypeError}
 use Rattle.meaning.specs.Context.{TypeMap, noTypes, ModuleContext, Context, context, blank, each}
 use Rattle.meaning.specs.Convert.{Slot, conversionErrors, conversionSlots}
 use Rattle.meaning.specs.Module.{slotType, parameterErrors, parameterSlots, functionContext, bodyErrors, bodySlots, itemErrors, itemSlots}
-use Rattle.state.specs.declared.State.{State}
-use Rattle.state.specs.Effect.{Effect, nothing, _then_, Shown}
-use Rattle.state.specs.Represents.{Lent, lent, Grew, Scope}
-use Rattle.state.specs.Post.{Walked}
-use Rattle.state.proofs.Sets.{each-append}
-use Rattle.state.proofs.Laws.{scope-later, then-nothing}
-use Rattle.state.proofs.Walks.{walked-then, walked-as, walked-at, walked-wider}
+use Rattle.walk.specs.declared.State.{State}
+use Rattle.walk.specs.Effect.{Effect, nothing, _then_, Shown}
+use Rattle.walk.specs.Represents.{Lent, lent, Grew, Scope}
+use Rattle.walk.specs.Post.{Walked}
+use Rattle.walk.proofs.Sets.{each-append}
+use Rattle.walk.proofs.Laws.{scope-later, then-nothing}
+use Rattle.walk.proofs.Walks.{walked-then, walked-as, walked-at, walked-wider}
 use Rattle.convert.specs.Convert.{Resolves, storeSlot, visiting}
 use Rattle.convert.specs.Post.{Ready, Converted}
-use Rattle.expression.proofs.Visits.{visit-then}
+use Rattle.convert.proofs.Visits.{visit-then}
 use Rattle.statement.specs.Post.{Inside}
-use Rattle.locals.specs.Cleared.{parameterNames, bodyNames}
-use Rattle.locals.proofs.Names.{Declares, after-declares, no-argument}
+use Rattle.clear_locals.specs.Cleared.{parameterNames, bodyNames}
+use Rattle.clear_locals.proofs.Names.{Declares, after-declares, no-argument}
 use Rattle.items.specs.Post.{Outside, knowing, ParametersChecked, afterBody, BodyChecked, FunctionCleared, ItemChecked, ItemCheckedAt}
 use Rattle.items.proofs.Locals.{cleared-walked, cleared-scope}
 
@@ -81,8 +81,8 @@ function-shown m l name returned ps body i j k n few =
     let whole = visiting true (b ++ a ++ c) (e ++ f ++ g) n in
     subst (λ (x : Effect). Shown x whole)
     (sym (then-nothing (visiting true a e i then visiting true b f j then visiting true c g k)
-    ∙ ap (λ (x : Effect). x then visiting true c g k) (visit-then a b e f i j)
-    ∙ visit-then (a ++ b) c (e ++ f) g (i + j) k))
+    ∙ ap (λ (x : Effect). x then visiting true c g k) (visit-then true a b e f i j)
+    ∙ visit-then true (a ++ b) c (e ++ f) g (i + j) k))
     (visit-swapped a b c (e ++ f ++ g) (i + j + k) n few)
 
 -- A body, or nothing, leaves the names that it does not declare

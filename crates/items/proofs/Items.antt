@@ -11,7 +11,7 @@ use Rattle.shape.specs.declared.Holds.the-variants.{Items}
 use Rattle.node.specs.Bytes.{Read, halfAt, wordAt}
 use Rattle.node.specs.Layout.{maxBytes, kindAt, stopAt}
 use Rattle.node.specs.Fine.{FineRecord, FineList}
-use Rattle.node.specs.Tree.{Item, globalDeclaration, otherItem}
+use Rattle.node.specs.Tree.{Item, globalDeclaration}
 use Rattle.node.specs.Record.{locationAt, typeAt, itemTreeAt}
 use Rattle.node.specs.declared.names.BuiltIns.{BuiltIns}
 use Rattle.node.proofs.Open.{opened, split-may}
@@ -22,26 +22,27 @@ use Rattle.meaning.specs.Context.{ModuleContext, context, blank, each}
 use Rattle.meaning.specs.Convert.{Slot, convertNodeType, conversionErrors, conversionSlots}
 use Rattle.meaning.specs.Compound.{globalInitialErrors, initialSlots}
 use Rattle.meaning.specs.Module.{itemErrors, itemSlots}
-use Rattle.state.specs.declared.State.{State}
-use Rattle.state.specs.Effect.{Effect, _then_, Shown}
-use Rattle.state.specs.Represents.{Lent, lent}
-use Rattle.state.proofs.Laws.{scope-later}
-use Rattle.state.proofs.Walks.{walked-none, walked-then, walked-as, walked-at, walked-wider, Going, going-start, going-on, going-done}
+use Rattle.walk.specs.declared.State.{State}
+use Rattle.walk.specs.Effect.{Effect, _then_, Shown}
+use Rattle.walk.specs.Represents.{Lent, lent}
+use Rattle.walk.proofs.Laws.{scope-later}
+use Rattle.walk.proofs.Walks.{walked-none, walked-then, walked-as, walked-at, walked-wider, Going, going-start, going-on, going-done}
 use Rattle.convert.specs.Convert.{visiting}
 use Rattle.convert.specs.Post.{Ready, Converted}
-use Rattle.expression.proofs.Laws.{resolves-later}
-use Rattle.expression.proofs.Visits.{visit-then, visit-steps}
+use Rattle.convert.proofs.Visits.{visit-then}
+use Rattle.convert.proofs.Laws.{resolves-later}
+use Rattle.expression.proofs.Visits.{visit-steps}
 use Rattle.compound.specs.Post.{Target}
-use Rattle.initial.specs.Post.{initialAt, InitialCheckedAt}
-use Rattle.places.specs.Absolute.{itemsAt}
-use Rattle.places.proofs.Listed.{items-cons, items-none}
+use Rattle.initial_value.specs.Post.{initialAt, InitialCheckedAt}
+use Rattle.slot_places.specs.Absolute.{itemsAt}
+use Rattle.slot_places.proofs.Listed.{items-cons, items-none}
 use Rattle.items.specs.Post.{Outside, ItemChecked, ItemCheckedAt, ItemsCheckedAt}
 use Rattle.items.proofs.Functions.{DeclaredRoom, declared-room}
 
 -- One part after another, in byte order
 visits-then : (a b : List Slot) (e f : List TypeError) (i j n : ℕ) → i + j ≤ n → Shown (visiting true a e i then visiting true b f j) (visiting true (a ++ b) (e ++ f) n)
 visits-then a b e f i j n few =
-    subst (λ (x : Effect). Shown x (visiting true (a ++ b) (e ++ f) n)) (sym (visit-then a b e f i j)) (visit-steps (a ++ b) (e ++ f) (i + j) n few)
+    subst (λ (x : Effect). Shown x (visiting true (a ++ b) (e ++ f) n)) (sym (visit-then true a b e f i j)) (visit-steps (a ++ b) (e ++ f) (i + j) n few)
 
 module _ {s : List ℕ} {d at : ℕ} (fine : FineRecord s d at (length s) anItem) where
   pub item-room : at + 16 ≤ length s

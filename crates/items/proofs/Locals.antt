@@ -14,15 +14,16 @@ use Rattle.types.proofs.Grow.{extends-refl}
 use Rattle.node.specs.Tree.{Statement}
 use Rattle.node.specs.Record.{statementAt, bodyAt}
 use Rattle.meaning.specs.Context.{Context, context, blank}
-use Rattle.state.specs.declared.State.{State}
-use Rattle.state.specs.Effect.{nothing}
-use Rattle.state.specs.Words.{wordPlace, mapAt}
-use Rattle.state.specs.Represents.{lent, WordOk, Good, Holds, Scope}
-use Rattle.state.specs.Post.{Walked}
-use Rattle.state.proofs.Laws.{frame-none}
-use Rattle.state.proofs.Scopes.{does-work, scope-blank}
-use Rattle.locals.specs.Cleared.{declaredNames, bodyNames, isAmong, cleared}
-use Rattle.locals.proofs.Names.{either-then, cleared-wide, cleared-either, cleared-other, cleared-stays, cleared-zero}
+use Rattle.walk.specs.declared.State.{State}
+use Rattle.walk.specs.Effect.{nothing}
+use Rattle.walk.specs.Words.{wordPlace, mapAt}
+use Rattle.walk.specs.Represents.{lent, WordOk, Good, Holds, Scope}
+use Rattle.walk.specs.Post.{Walked}
+use Rattle.walk.proofs.Laws.{frame-none}
+use Rattle.walk.proofs.Scopes.{does-work, scope-blank}
+use Rattle.meaning.specs.Statement.{declaredNames}
+use Rattle.clear_locals.specs.Cleared.{bodyNames, isOneOf, clearedWords}
+use Rattle.clear_locals.proofs.Names.{either-then, cleared-wide, cleared-either, cleared-other, cleared-stays, cleared-zero}
 use Rattle.items.specs.Post.{BodyLeft, Cleared, FunctionCleared}
 use Rattle.items.proofs.Bodies.{no-body, there}
 
@@ -95,9 +96,9 @@ all-cleared {work = work} {work′ = work′} c =
     word i false q = inl (c .zeros i (ltb-false (i % 4) 2 q))
 
 -- Those of the names declared are cleared
-both-cleared : (arguments locals work : List ℕ) → FunctionCleared arguments locals work (cleared 2 locals (cleared 3 arguments work))
+both-cleared : (arguments locals work : List ℕ) → FunctionCleared arguments locals work (clearedWords 2 locals (clearedWords 3 arguments work))
 both-cleared arguments locals work =
-    let middle = cleared 3 arguments work in
+    let middle = clearedWords 3 arguments work in
     record {
       wide = cleared-wide 2 locals middle ∙ cleared-wide 3 arguments work;
       either = λ i. either-then (cleared-either 3 arguments work i) (cleared-either 2 locals middle i);
@@ -106,19 +107,19 @@ both-cleared arguments locals work =
       noArguments = λ n h. cleared-stays 2 locals middle (wordPlace n 3) (cleared-zero 3 n arguments work h);
     }
 
-declared-cleared : {arguments locals : List ℕ} (work : List ℕ) {work₁ work′ : List ℕ} → work₁ ≡ cleared 3 arguments work → work′ ≡ cleared 2 locals work₁ → FunctionCleared arguments locals work work′
+declared-cleared : {arguments locals : List ℕ} (work : List ℕ) {work₁ work′ : List ℕ} → work₁ ≡ clearedWords 3 arguments work → work′ ≡ clearedWords 2 locals work₁ → FunctionCleared arguments locals work work′
 declared-cleared {arguments} {locals} work first second =
-    subst (FunctionCleared arguments locals work) (sym (second ∙ ap (cleared 2 locals) first)) (both-cleared arguments locals work)
+    subst (FunctionCleared arguments locals work) (sym (second ∙ ap (clearedWords 2 locals) first)) (both-cleared arguments locals work)
 
-module _ {s : List ℕ} {d body stop : ℕ} (left : BodyLeft s d body stop) {arguments : List ℕ} (work : List ℕ) {work₁ : List ℕ} (first : work₁ ≡ cleared 3 arguments work) where
+module _ {s : List ℕ} {d body stop : ℕ} (left : BodyLeft s d body stop) {arguments : List ℕ} (work : List ℕ) {work₁ : List ℕ} (first : work₁ ≡ clearedWords 3 arguments work) where
   -- no body
   pub parameters-cleared : stop ≤ body → FunctionCleared arguments (bodyNames (bodyAt s d body stop)) work work₁
-  unfolding bodyNames cleared
+  unfolding bodyNames clearedWords
   parameters-cleared p =
       let tree = no-body left p in
       subst (λ (t : Option Statement). FunctionCleared arguments (bodyNames t) work work₁) (sym tree) (declared-cleared {locals = []} work first refl)
 
-  pub body-cleared : (more : body < stop) {work′ : List ℕ} → work′ ≡ cleared 2 (declaredNames (statementAt s d body)) work₁ → FunctionCleared arguments (bodyNames (bodyAt s d body stop)) work work′
+  pub body-cleared : (more : body < stop) {work′ : List ℕ} → work′ ≡ clearedWords 2 (declaredNames (statementAt s d body)) work₁ → FunctionCleared arguments (bodyNames (bodyAt s d body stop)) work work′
   unfolding bodyNames
   body-cleared more {work′} second =
       subst (λ (t : Option Statement). FunctionCleared arguments (bodyNames t) work work′) (sym (there left more .body)) (declared-cleared work first second)
@@ -147,19 +148,19 @@ module _ {arguments locals work work′ o e w ix : List ℕ} {st : State} (c : F
         go true l = subst (Holds w (st .rows) (getD work (wordPlace n k) 0)) q (s .holds p n k lk (ltb-true (wordPlace n k) (length work) l))
         go false l = let z : length work ≤ wordPlace n k = ltb-false (wordPlace n k) (length work) l in List·getD-eq-default work 0 (omega arith)
 
-    is-zero : st .full ≡ false → (n k : ℕ) → k < 4 → (names : List ℕ) → (isAmong n names ≡ true → getD work′ (wordPlace n k) 0 ≡ 0)
-        → (isAmong n names ≡ false → mapAt ctx k n ≡ none) → (b : Bool) → isAmong n names ≡ b → getD work′ (wordPlace n k) 0 ≡ 0
+    is-zero : st .full ≡ false → (n k : ℕ) → k < 4 → (names : List ℕ) → (isOneOf n names ≡ true → getD work′ (wordPlace n k) 0 ≡ 0)
+        → (isOneOf n names ≡ false → mapAt ctx k n ≡ none) → (b : Bool) → isOneOf n names ≡ b → getD work′ (wordPlace n k) 0 ≡ 0
     is-zero p n k lk names here there true q = here q
     is-zero p n k lk names here there false q = ⊎-elim (λ z. z) (λ z. z ∙ was-zero p n k lk (there q)) (c .either (wordPlace n k))
 
     -- No local or argument is left
-    pub cleared-scope : ((n : ℕ) → isAmong n locals ≡ false → ctx .inFunction .variables n ≡ none) → ((n : ℕ) → isAmong n arguments ≡ false → ctx .inFunction .arguments n ≡ none)
+    pub cleared-scope : ((n : ℕ) → isOneOf n locals ≡ false → ctx .inFunction .variables n ≡ none) → ((n : ℕ) → isOneOf n arguments ≡ false → ctx .inFunction .arguments n ≡ none)
         → Scope (lent work′ o e w ix st) (context (ctx .inModule) blank)
     cleared-scope noLocal noArgument = record { holds = λ p. scope-blank {ctx = ctx} work′ (c .wide) (c .kept) (zeros p) s .holds p }
       where
         zeros : st .full ≡ false → (n k : ℕ) → 2 ≤ k → k < 4 → getD work′ (wordPlace n k) 0 ≡ 0
         zeros p n zero l lk = absurd (omega arith)
         zeros p n (suc zero) l lk = absurd (omega arith)
-        zeros p n (suc (suc zero)) l lk = is-zero p n 2 (omega arith) locals (c .noLocals n) (noLocal n) (isAmong n locals) refl
-        zeros p n (suc (suc (suc zero))) l lk = is-zero p n 3 (omega arith) arguments (c .noArguments n) (noArgument n) (isAmong n arguments) refl
+        zeros p n (suc (suc zero)) l lk = is-zero p n 2 (omega arith) locals (c .noLocals n) (noLocal n) (isOneOf n locals) refl
+        zeros p n (suc (suc (suc zero))) l lk = is-zero p n 3 (omega arith) arguments (c .noArguments n) (noArgument n) (isOneOf n arguments) refl
         zeros p n (suc (suc (suc (suc k)))) l lk = absurd (omega arith)

@@ -18,22 +18,23 @@ use Rattle.node.specs.Record.{typeAt, parametersAt, bodyAt}
 use Rattle.node.specs.declared.names.BuiltIns.{BuiltIns}
 use Rattle.node.proofs.Open.{opened}
 use Rattle.node.proofs.ItemTrees.{ParameterAt, parameters-none, parameter-at, body-at}
+use Rattle.node.proofs.Cases.{by-number}
 use Rattle.meaning.specs.Context.{TypeMap, noTypes, Entry, insert, insertAll, ModuleContext, context, each}
 use Rattle.meaning.specs.Convert.{convertNodeType}
 use Rattle.meaning.specs.Module.{parameterEntry, parameterErrors, parameterSlots, argumentMap}
-use Rattle.state.specs.declared.State.{State}
-use Rattle.state.specs.Effect.{Effect, nothing, _then_}
-use Rattle.state.specs.Words.{wordPlace}
-use Rattle.state.specs.Represents.{Lent, lent, Scope}
-use Rattle.state.specs.Post.{Walked}
-use Rattle.state.proofs.Sets.{each-append}
-use Rattle.state.proofs.Laws.{scope-later, then-nothing}
-use Rattle.state.proofs.Walks.{walked-none, walked-then, walked-as, walked-is, walked-at, walked-wider}
-use Rattle.state.proofs.Scopes.{walked-set, scope-argument}
+use Rattle.walk.specs.declared.State.{State}
+use Rattle.walk.specs.Effect.{Effect, nothing, _then_}
+use Rattle.walk.specs.Words.{wordPlace}
+use Rattle.walk.specs.Represents.{Lent, lent, Scope}
+use Rattle.walk.specs.Post.{Walked}
+use Rattle.walk.proofs.Sets.{each-append}
+use Rattle.walk.proofs.Laws.{scope-later, then-nothing}
+use Rattle.walk.proofs.Walks.{walked-none, walked-then, walked-as, walked-is, walked-at, walked-wider}
+use Rattle.walk.proofs.Scopes.{walked-set, scope-argument}
 use Rattle.convert.specs.Convert.{Resolves, visiting}
 use Rattle.convert.specs.Post.{Ready, Converted}
-use Rattle.expression.proofs.Cases.{by-number}
-use Rattle.expression.proofs.Visits.{visit-then, visit-steps}
+use Rattle.convert.proofs.Visits.{visit-then}
+use Rattle.expression.proofs.Visits.{visit-steps}
 use Rattle.items.specs.Post.{Outside, knowing, ParametersChecked}
 
 -- One argument more
@@ -157,7 +158,7 @@ module _ (s : List ℕ) (names : BuiltIns) (d from end : ℕ) where
             ≡ visits (c .done ++ (now ∷ [])) (at - from + (stopAt s (at + 20) - (at + 20))) m
         effects m =
             then-nothing (visits (c .done) (at - from) m then visiting true (parameterSlots m now) (parameterErrors m now) (stopAt s (at + 20) - (at + 20)))
-            ∙ visit-then (each (parameterSlots m) (c .done)) (parameterSlots m now) (each (parameterErrors m) (c .done)) (parameterErrors m now) (at - from) (stopAt s (at + 20) - (at + 20))
+            ∙ visit-then true (each (parameterSlots m) (c .done)) (parameterSlots m now) (each (parameterErrors m) (c .done)) (parameterErrors m now) (at - from) (stopAt s (at + 20) - (at + 20))
             ∙ (λ i. visiting true (sym (each-last (parameterSlots m) (c .done) now) i) (sym (each-last (parameterErrors m) (c .done) now) i) (at - from + (stopAt s (at + 20) - (at + 20))))
 
         high : at + 20 ≤ stop

@@ -1,5 +1,5 @@
 -- What pass 2 promises, of an item and of all.
-use Prim.Native.Nat.{ℕ, _+_, _-_, _%_, _≤_, _<_}
+use Prim.Native.Nat.{ℕ, _-_, _%_, _≤_, _<_}
 use mathlib.Core.Path.{_≡_}
 use mathlib.Core.Bool.{true}
 use mathlib.Core.List.{List}
@@ -7,24 +7,30 @@ use mathlib.Core.Option.{Option, none, some}
 use mathlib.Core.Logic.{_⊎_}
 use lib.ListN.{length, getD}
 use Rattle.types.specs.Ty.{void}
+use Rattle.shape.specs.Kinds as kinds
 use Rattle.shape.specs.declared.Holds.the-variants.{Parameters}
-use Rattle.node.specs.Bytes.{wordAt}
+use Rattle.node.specs.Bytes.{wordAt, headEnd}
 use Rattle.node.specs.Layout.{kindAt, stopAt}
 use Rattle.node.specs.Fine.{FineList}
 use Rattle.node.specs.Tree.{Statement, Parameter, Item}
 use Rattle.node.specs.Record.{locationAt, parametersAt, bodyAt, itemTreeAt}
+use Rattle.node.specs.declared.fine.Node.{Node}
+use Rattle.node.specs.declared.fine.Nodes.{Nodes}
 use Rattle.node.specs.declared.names.BuiltIns.{BuiltIns}
 use Rattle.meaning.specs.Context.{noTypes, ModuleContext, Context, context, blank, each}
 use Rattle.meaning.specs.Statement.{contextAfter}
-use Rattle.meaning.specs.Module.{parameterErrors, parameterSlots, argumentMap, bodyErrors, bodySlots, itemErrors, itemSlots}
+use Rattle.meaning.specs.Module.{parameterErrors, parameterSlots, argumentMap, bodyErrors, bodySlots, itemErrors}
+use Rattle.meaning.specs.Module.{itemSlots}
 use Rattle.meaning.specs.Promise.{workWidth}
-use Rattle.state.specs.Words.{wordPlace}
-use Rattle.state.specs.Represents.{Lent, Scope}
-use Rattle.state.specs.Post.{Walked}
+use Rattle.walk.specs.Words.{wordPlace}
+use Rattle.walk.specs.Represents.{Lent, Scope}
+use Rattle.walk.specs.Post.{Walked}
 use Rattle.convert.specs.Convert.{Resolves, visiting}
 use Rattle.statement.specs.Post.{Inside}
-use Rattle.locals.specs.Cleared.{isAmong}
-use Rattle.places.specs.Absolute.{itemsAt}
+use Rattle.statement.specs.declared.Function.{Function}
+use Rattle.clear_locals.specs.Cleared.{parameterNames, bodyNames, isOneOf}
+use Rattle.slot_places.specs.Absolute.{itemsAt}
+use Rattle.items.specs.declared.Body.{Body}
 
 -- Outside of functions: the working words hold the context of the module, and no local or argument
 abbrev pub Outside : (s : List ℕ) → BuiltIns → Lent → ModuleContext → Type 0
@@ -37,7 +43,11 @@ knowing m parameters = context m (record { variables = noTypes; arguments = argu
 -- What is left of a function after its parameters: its body or nothing
 pub record BodyLeft (s : List ℕ) (depth body end : ℕ) : Type 0 where
   pub fine : FineList s depth body end Parameters
-  pub last : body < end → kindAt s body ≡ 85 → ⊥
+  pub last : body < end → kindAt s body ≡ kinds.parameter → ⊥
+
+-- as nodes
+abbrev pub NodesLeft : List ℕ → Nodes → Type 0
+NodesLeft s left = BodyLeft s (left .depth) (left .from) (left .end)
 
 -- The parameters from `from` were checked, up to the place `body`, where the body stands or the function ends: the working words know them
 pub record ParametersChecked (s : List ℕ) (names : BuiltIns) (depth from end body : ℕ) (C C′ : Lent) : Type 0 where
@@ -49,6 +59,10 @@ pub record ParametersChecked (s : List ℕ) (names : BuiltIns) (depth from end b
       (λ m. visiting true (each (parameterSlots m) (parametersAt s depth from end)) (each (parameterErrors m) (parametersAt s depth from end)) (body - from)) from body C C′
   pub scope : (m : ModuleContext) → Outside s names C m → Scope C′ (knowing m (parametersAt s depth from end))
 
+-- by their nodes
+abbrev pub CheckedParameters : List ℕ → BuiltIns → Nodes → (body : ℕ) → (C C′ : Lent) → Type 0
+CheckedParameters s names list body C C′ = ParametersChecked s names (list .depth) (list .from) (list .end) body C C′
+
 -- The context after a body, or after nothing
 abbrev pub afterBody : Context → Option Statement → Context
 afterBody ctx none = ctx
@@ -58,8 +72,15 @@ afterBody ctx (some t) = contextAfter ctx t
 pub record BodyChecked (s : List ℕ) (names : BuiltIns) (tree : Option Statement) (at body stop returned : ℕ) (C C′ : Lent) : Type 0 where
   pub wide : length (C′ .work) ≡ length (C .work)
   pub walked : Walked (Inside s names C returned)
-      (λ ctx. visiting true (bodySlots ctx tree) (bodyErrors ctx (locationAt s at) (wordAt s (at + 16)) tree) (stop - body)) body stop C C′
+      (λ ctx. visiting true (bodySlots ctx tree) (bodyErrors ctx (locationAt s at) (wordAt s (headEnd at)) tree) (stop - body)) body stop C C′
   pub scope : (ctx : Context) → Inside s names C returned ctx → Scope C′ (afterBody ctx tree)
+
+-- with what stays the same in the function
+abbrev pub CheckedBody : List ℕ → Function → Body → (C C′ : Lent) → Type 0
+CheckedBody s function body C C′ =
+    let left = body .left in
+    BodyChecked s (function .names) (bodyAt s (left .depth) (left .from) (left .end)) (body .at) (left .from) (left .end)
+    (function .returned) C C′
 
 -- The words of locals and arguments are 0, the others as they were
 pub record Cleared (work work′ : List ℕ) : Type 0 where
@@ -72,8 +93,14 @@ pub record FunctionCleared (arguments locals work work′ : List ℕ) : Type 0 w
   pub wide : length work′ ≡ length work
   pub either : (i : ℕ) → (getD work′ i 0 ≡ 0) ⊎ (getD work′ i 0 ≡ getD work i 0)
   pub kept : (name which : ℕ) → which < 2 → getD work′ (wordPlace name which) 0 ≡ getD work (wordPlace name which) 0
-  pub noLocals : (name : ℕ) → isAmong name locals ≡ true → getD work′ (wordPlace name 2) 0 ≡ 0
-  pub noArguments : (name : ℕ) → isAmong name arguments ≡ true → getD work′ (wordPlace name 3) 0 ≡ 0
+  pub noLocals : (name : ℕ) → isOneOf name locals ≡ true → getD work′ (wordPlace name 2) 0 ≡ 0
+  pub noArguments : (name : ℕ) → isOneOf name arguments ≡ true → getD work′ (wordPlace name 3) 0 ≡ 0
+
+-- those of the names that its parameters and its body declare
+abbrev pub ClearedFunction : List ℕ → Nodes → (body : ℕ) → (work work′ : List ℕ) → Type 0
+ClearedFunction s parameters body work work′ =
+    FunctionCleared (parameterNames (parametersAt s (parameters .depth) (parameters .from) (parameters .end)))
+    (bodyNames (bodyAt s (parameters .depth) body (parameters .end))) work work′
 
 -- An item from `at` to `stop` was checked: its effect, and no local or argument is left in the working words
 pub record ItemChecked (s : List ℕ) (names : BuiltIns) (item : Item) (at stop : ℕ) (C C′ : Lent) : Type 0 where
@@ -85,6 +112,10 @@ pub record ItemChecked (s : List ℕ) (names : BuiltIns) (item : Item) (at stop 
 abbrev pub ItemCheckedAt : (s : List ℕ) → BuiltIns → (depth at : ℕ) → (C C′ : Lent) → Type 0
 ItemCheckedAt s names depth at C C′ = ItemChecked s names (itemTreeAt s depth at) at (stopAt s at) C C′
 
+-- by its node
+abbrev pub ItemNodeChecked : List ℕ → BuiltIns → Node → (C C′ : Lent) → Type 0
+ItemNodeChecked s names node C C′ = ItemCheckedAt s names (node .depth) (node .at) C C′
+
 -- Items, one after another
 pub record ItemsChecked (s : List ℕ) (names : BuiltIns) (items : List Item) (from end : ℕ) (C C′ : Lent) : Type 0 where
   pub wide : length (C′ .work) ≡ length (C .work)
@@ -94,3 +125,7 @@ pub record ItemsChecked (s : List ℕ) (names : BuiltIns) (items : List Item) (f
 -- The items from one place to another
 abbrev pub ItemsCheckedAt : (s : List ℕ) → BuiltIns → (depth from end : ℕ) → (C C′ : Lent) → Type 0
 ItemsCheckedAt s names depth from end C C′ = ItemsChecked s names (itemsAt s depth from end) from end C C′
+
+-- by their nodes
+abbrev pub ItemNodesChecked : List ℕ → BuiltIns → Nodes → (C C′ : Lent) → Type 0
+ItemNodesChecked s names list C C′ = ItemsCheckedAt s names (list .depth) (list .from) (list .end) C C′

@@ -1,186 +1,181 @@
 // Pass 2: the slots and the errors of items, one at a time.
+use clear_locals::clear_parameters;
+use clear_locals::clear_statement;
 use convert::Pass;
 use convert::convert_node_type;
+use divergence::do_all_paths_diverge;
+use expression_rules::report_unless;
 use fallible::kinds::PATHS_WITHOUT_RETURN;
+use initial_value::Value;
+use initial_value::type_check_initial;
+use node::bytes::FIELD_END;
+use node::bytes::FIELDS_END;
+use node::bytes::HEAD_END;
+use node::bytes::KIND;
 use node::bytes::half;
 use node::bytes::length_at;
 use node::bytes::word;
+use node::fine::Node;
+use node::fine::Nodes;
 use node::names::BuiltIns;
-use state::State;
-ghost use Prim.Native.Nat.{_+_, _*_, _≤_};
+use shape::kinds::FUNCTION_DEFINITION;
+use shape::kinds::GLOBAL_DECLARATION;
+use shape::kinds::PARAMETER;
+use shape::kinds::TYPE_ALIAS;
+use statement::Function;
+use statement::type_check_statement;
+use walk::State;
+ghost use Prim.Native.Nat.{_*_, _≤_};
 ghost use mathlib.Core.Path.{_≡_};
 ghost use mathlib.Core.Bool.{_||_};
 ghost use lib.Dec.{eqb};
 ghost use lib.ListN.{length};
+ghost use Rattle.contract.specs.Moments.{old, final};
+ghost use Rattle.shape.specs.Kinds as kinds;
 ghost use Rattle.shape.specs.Shape.{aStatement, anItem};
 ghost use Rattle.shape.specs.declared.Holds.the-variants.{Parameters, Items};
+ghost use Rattle.node.specs.Bytes.{fieldEnd};
 ghost use Rattle.node.specs.Names.{nameCount};
 ghost use Rattle.node.specs.Layout.{kindAt};
-ghost use Rattle.node.specs.Fine.{FineRecord, FineList};
-ghost use Rattle.node.specs.Record.{statementAt, parametersAt, bodyAt};
+ghost use Rattle.node.specs.Fine.{FineNode, FineNodes};
+ghost use Rattle.node.specs.Record.{statementAt};
 ghost use Rattle.relations.specs.Entry.{OneType};
 ghost use Rattle.meaning.specs.Divergence.{doAllPathsDiverge};
 ghost use Rattle.meaning.specs.Promise.{workWidth};
-ghost use Rattle.state.specs.Represents.{lent};
 ghost use Rattle.convert.specs.Post.{Ready};
-ghost use Rattle.locals.specs.Cleared.{parameterNames, bodyNames};
-ghost use Rattle.items.specs.Post.{ParametersChecked, BodyLeft, BodyChecked, Cleared, FunctionCleared, ItemCheckedAt, ItemsCheckedAt};
-
-// Kinds of records.
-const FUNCTION: u32 = 80;
-
-const ALIAS: u32 = 81;
-
-const VARIABLE: u32 = 83;
-
-const PARAMETER: u32 = 85;
-
-// Bytes of an item before its parts: an alias has its flags there too.
-const NAME: usize = 16;
-
-const PARTS: usize = 20;
-
-const ALIAS_PARTS: usize = 24;
+ghost use Rattle.walk.specs.Moments.{given, before, after};
+ghost use Rattle.items.specs.Post.{BodyLeft, NodesLeft, CheckedParameters, CheckedBody, Cleared, ClearedFunction};
+ghost use Rattle.items.specs.Post.{ItemNodeChecked, ItemNodesChecked};
 
 // Where the parameters of a function end, and the state then.
-struct Entered {
-    body: usize,
+struct ParametersEnd {
+    at: usize,
     state: State,
 }
 
-// The parameters from `from`, in order: their slots, and the words of arguments. What is left after them is the body.
+// What is left of the function at `at` after its parameters: its body, or nothing.
+struct Body {
+    at: usize,
+    left: Nodes,
+}
+
+// Parameters, in order: their slots, and the words of arguments. What is left after them is the body.
 fn type_check_parameters(
     s: &[u8],
     names: BuiltIns,
     work: &mut [u32],
-    from: usize,
-    end: usize,
-    depth: usize,
+    list: Nodes,
     output: &mut [u8],
     errors: &mut [u32],
     rows: &mut [u32],
-    buckets: &mut [u16; lookup::LENGTH],
+    index: &mut [u16; row_index::LENGTH],
     state: State,
-) -> Entered
-    requires { ⌜ FineList (now s) depth from end Parameters ⌝ }
-    requires { ⌜ Ready (now s) (lent (now work) (now output) (now errors) (now rows) (now buckets) state) ⌝ }
-    ensures { λ r. ⌜ ParametersChecked (now (s .entry)) names depth from end (r .body) (lent (now (work .entry)) (now (output .entry)) (now (errors .entry)) (now (rows .entry)) (now (buckets .entry)) state) (lent (now (work .exit)) (now (output .exit)) (now (errors .exit)) (now (rows .exit)) (now (buckets .exit)) (r .state)) ⌝ }
+) -> ParametersEnd
+    requires { ⌜ FineNodes (now s) list Parameters ⌝ }
+    requires { ⌜ Ready (now s) (given work output errors rows index state) ⌝ }
+    ensures { λ r. ⌜ CheckedParameters (old s) names list (r .at)
+        (before work output errors rows index state)
+        (after work output errors rows index (r .state)) ⌝ }
 {
-    let mut at = from;
+    let end = list.end;
+    let levels = list.depth;
+    let mut at = list.from;
     let mut next = state;
     while at < end {
-        if half(s, at + 4) != PARAMETER {
-            return Entered {
-                body: at,
-                state: next,
-            };
+        if half(s, at + KIND) != PARAMETER {
+            return ParametersEnd { at, state: next };
         }
-        let converted = convert_node_type(
-            s,
-            Pass { names, fill: true },
-            work,
-            at + PARTS,
-            depth - 1,
-            output,
-            errors,
-            rows,
-            buckets,
-            next,
-        );
-        let name = word(s, at + NAME);
-        state::set_word(work, name, state::ARGUMENT, converted.ty);
+        let start = at + FIELD_END;
+        let depth = levels - 1;
+        let node = Node { at: start, depth };
+        let pass = Pass { names, fill: true };
+        let converted = convert_node_type(s, pass, work, node, output, errors, rows, index, next);
+        let name = word(s, at + HEAD_END);
+        walk::set_word(work, name, walk::ARGUMENT, converted.ty);
         next = converted.state;
-        at = at + length_at(s, at);
+        at += length_at(s, at);
     }
-    Entered {
-        body: at,
-        state: next,
-    }
+    ParametersEnd { at, state: next }
 }
 
-// Whether the body at `body` needs no return: void itself is returned, which is row 2, or all paths diverge.
-fn needs_no_return(s: &[u8], body: usize, depth: usize, returned: u32) -> bool
-    requires { ⌜ FineRecord (now s) depth body (length (now s)) aStatement ⌝ }
-    ensures { λ r. ⌜ r ≡ (eqb returned 2 || doAllPathsDiverge (statementAt (now (s .entry)) depth body)) ⌝ }
+// Whether a body needs no return: void itself is returned, which is row 2, or all paths diverge.
+fn needs_no_return(s: &[u8], node: Node, returned: u32) -> bool
+    requires { ⌜ FineNode (now s) node aStatement ⌝ }
+    ensures { λ r. ⌜ r ≡ (eqb returned 2 || doAllPathsDiverge (statementAt (old s) (node .depth) (node .at))) ⌝ }
 {
     if returned == types::VOID {
         return true;
     }
-    divergence::do_all_paths_diverge(s, body, depth)
+    do_all_paths_diverge(s, node)
 }
 
-// What is left from `body` to `stop` of the function at `at`, which returns the type row `returned`: its body, or nothing.
+// The body of a function, if it has one.
 fn type_check_body(
     s: &[u8],
-    names: BuiltIns,
+    function: Function,
     work: &mut [u32],
-    at: usize,
-    body: usize,
-    stop: usize,
-    depth: usize,
-    returned: u32,
+    body: Body,
     output: &mut [u8],
     errors: &mut [u32],
     rows: &mut [u32],
-    buckets: &mut [u16; lookup::LENGTH],
+    index: &mut [u16; row_index::LENGTH],
     state: State,
 ) -> State
-    requires { ⌜ (at + 20 ≤ length (now s)) × BodyLeft (now s) depth body stop ⌝ }
-    requires { ⌜ Ready (now s) (lent (now work) (now output) (now errors) (now rows) (now buckets) state) × OneType (now rows) (state .rows) returned ⌝ }
-    ensures { λ r. ⌜ BodyChecked (now (s .entry)) names (bodyAt (now (s .entry)) depth body stop) at body stop returned (lent (now (work .entry)) (now (output .entry)) (now (errors .entry)) (now (rows .entry)) (now (buckets .entry)) state) (lent (now (work .exit)) (now (output .exit)) (now (errors .exit)) (now (rows .exit)) (now (buckets .exit)) r) ⌝ }
+    requires { ⌜ (fieldEnd (body .at) ≤ length (now s)) × NodesLeft (now s) (body .left) ⌝ }
+    requires { ⌜ Ready (now s) (given work output errors rows index state) ⌝ }
+    requires { ⌜ OneType (now rows) (state .rows) (function .returned) ⌝ }
+    ensures { λ r. ⌜ CheckedBody (old s) function body
+        (before work output errors rows index state)
+        (after work output errors rows index r) ⌝ }
 {
-    if stop <= body {
+    let left = body.left;
+    if left.end <= left.from {
         return state;
     }
-    let next = statement::type_check_statement(
-        s,
-        names,
-        work,
-        body,
-        depth,
-        returned,
-        output,
-        errors,
-        rows,
-        buckets,
-        state,
-    );
-    let name = word(s, at + NAME);
-    let holds = needs_no_return(s, body, depth, returned);
-    rules::report_unless(holds, s, at, PATHS_WITHOUT_RETURN, name, 0, 0, errors, next)
+    let at = left.from;
+    let depth = left.depth;
+    let node = Node { at, depth };
+    let next = type_check_statement(s, function, work, node, output, errors, rows, index, state);
+    let name = word(s, body.at + HEAD_END);
+    let holds = needs_no_return(s, node, function.returned);
+    let kind = PATHS_WITHOUT_RETURN;
+    report_unless(holds, s, body.at, kind, name, 0, 0, errors, next)
 }
 
 // Clears the words of locals and arguments of all names, which stand side by side.
-fn clear_locals(work: &mut [u32])
-    ensures { λ _. ⌜ Cleared (now (work .entry)) (now (work .exit)) ⌝ }
+fn clear_all_locals(work: &mut [u32])
+    ensures { λ _. ⌜ Cleared (old work) (final work) ⌝ }
 {
-    let mut i = state::LOCAL;
+    let mut i = walk::LOCAL;
     while i + 1 < work.len() {
         work[i] = 0;
         work[i + 1] = 0;
-        i += state::WORK_WIDTH;
+        i += walk::WORK_WIDTH;
     }
     if i < work.len() {
         work[i] = 0;
     }
 }
 
-// Clears the words of a function's arguments and locals: the body at `body` and the parameters before it lie from `from` to `stop`.
+// Clears the words of a function's arguments and locals: its parameters, and the body at `body` after them.
 // Where the words are no more than these bytes, those of all names are cleared, else those of the names declared there.
-fn clear_function(s: &[u8], from: usize, body: usize, stop: usize, depth: usize, work: &mut [u32])
-    requires { ⌜ FineList (now s) depth from stop Parameters × BodyLeft (now s) depth body stop ⌝ }
+fn clear_function(s: &[u8], parameters: Nodes, body: usize, work: &mut [u32])
+    requires { ⌜ FineNodes (now s) parameters Parameters ⌝ }
+    requires { ⌜ BodyLeft (now s) (parameters .depth) body (parameters .end) ⌝ }
     requires { ⌜ workWidth * nameCount (now s) ≤ length (now work) ⌝ }
-    ensures { λ _. ⌜ FunctionCleared (parameterNames (parametersAt (now (s .entry)) depth from stop)) (bodyNames (bodyAt (now (s .entry)) depth body stop)) (now (work .entry)) (now (work .exit)) ⌝ }
+    ensures { λ _. ⌜ ClearedFunction (old s) parameters body (old work) (final work) ⌝ }
 {
-    if work.len() <= stop - from {
-        clear_locals(work);
+    if work.len() <= parameters.end - parameters.from {
+        clear_all_locals(work);
         return;
     }
-    locals::clear_parameters(s, from, stop, depth, work);
-    if stop <= body {
+    clear_parameters(s, parameters, work);
+    if parameters.end <= body {
         return;
     }
-    locals::clear_statement(s, body, depth, work)
+    let depth = parameters.depth;
+    let node = Node { at: body, depth };
+    clear_statement(s, node, work)
 }
 
 // A function: its parameters, then the type that it returns, then its body.
@@ -188,66 +183,64 @@ fn type_check_function(
     s: &[u8],
     names: BuiltIns,
     work: &mut [u32],
-    at: usize,
-    depth: usize,
+    node: Node,
     output: &mut [u8],
     errors: &mut [u32],
     rows: &mut [u32],
-    buckets: &mut [u16; lookup::LENGTH],
+    index: &mut [u16; row_index::LENGTH],
     state: State,
 ) -> State
-    requires { ⌜ FineRecord (now s) depth at (length (now s)) anItem × (kindAt (now s) at ≡ 80) ⌝ }
-    requires { ⌜ Ready (now s) (lent (now work) (now output) (now errors) (now rows) (now buckets) state) ⌝ }
-    ensures { λ r. ⌜ ItemCheckedAt (now (s .entry)) names depth at (lent (now (work .entry)) (now (output .entry)) (now (errors .entry)) (now (rows .entry)) (now (buckets .entry)) state) (lent (now (work .exit)) (now (output .exit)) (now (errors .exit)) (now (rows .exit)) (now (buckets .exit)) r) ⌝ }
+    requires { ⌜ FineNode (now s) node anItem × (kindAt (now s) (node .at) ≡ kinds.functionDefinition) ⌝ }
+    requires { ⌜ Ready (now s) (given work output errors rows index state) ⌝ }
+    ensures { λ r. ⌜ ItemNodeChecked (old s) names node
+        (before work output errors rows index state)
+        (after work output errors rows index r) ⌝ }
 {
-    let stop = at + length_at(s, at);
-    let start = at + PARTS;
-    let from = start + length_at(s, start);
-    let inner = depth - 1;
-    let entered = type_check_parameters(
-        s,
-        names,
-        work,
-        from,
-        stop,
-        inner,
-        output,
-        errors,
-        rows,
-        buckets,
-        state,
-    );
+    let end = node.at + length_at(s, node.at);
+    let at = node.at + FIELD_END;
+    let depth = node.depth - 1;
+    let first = Node { at, depth };
+    let from = at + length_at(s, at);
+    let list = Nodes { from, end, depth };
+    let entered = type_check_parameters(s, names, work, list, output, errors, rows, index, state);
     let known = entered.state;
-    let returned = convert_node_type(
-        s,
-        Pass { names, fill: true },
-        work,
-        start,
-        inner,
-        output,
-        errors,
-        rows,
-        buckets,
-        known,
-    );
-    let ready = returned.state;
-    let next = type_check_body(
-        s,
-        names,
-        work,
-        at,
-        entered.body,
-        stop,
-        inner,
-        returned.ty,
-        output,
-        errors,
-        rows,
-        buckets,
-        ready,
-    );
-    clear_function(s, from, entered.body, stop, inner, work);
+    let pass = Pass { names, fill: true };
+    let typed = convert_node_type(s, pass, work, first, output, errors, rows, index, known);
+    let returned = typed.ty;
+    let function = Function { names, returned };
+    let from = entered.at;
+    let left = Nodes { from, end, depth };
+    let body = Body { at: node.at, left };
+    let ready = typed.state;
+    let next = type_check_body(s, function, work, body, output, errors, rows, index, ready);
+    clear_function(s, list, from, work);
     next
+}
+
+// An alias: the type that it is declared with.
+fn type_check_alias(
+    s: &[u8],
+    names: BuiltIns,
+    work: &[u32],
+    node: Node,
+    output: &mut [u8],
+    errors: &mut [u32],
+    rows: &mut [u32],
+    index: &mut [u16; row_index::LENGTH],
+    state: State,
+) -> State
+    requires { ⌜ FineNode (now s) node anItem × (kindAt (now s) (node .at) ≡ kinds.typeAlias) ⌝ }
+    requires { ⌜ Ready (now s) (given work output errors rows index state) ⌝ }
+    ensures { λ r. ⌜ ItemNodeChecked (old s) names node
+        (before work output errors rows index state)
+        (after work output errors rows index r) ⌝ }
+{
+    let at = node.at + FIELDS_END;
+    let depth = node.depth - 1;
+    let first = Node { at, depth };
+    let pass = Pass { names, fill: true };
+    let aliased = convert_node_type(s, pass, work, first, output, errors, rows, index, state);
+    aliased.state
 }
 
 // A variable: its type, then its value, of which only a compound is compared with the type.
@@ -255,148 +248,94 @@ fn type_check_variable(
     s: &[u8],
     names: BuiltIns,
     work: &[u32],
-    at: usize,
-    depth: usize,
+    node: Node,
     output: &mut [u8],
     errors: &mut [u32],
     rows: &mut [u32],
-    buckets: &mut [u16; lookup::LENGTH],
+    index: &mut [u16; row_index::LENGTH],
     state: State,
 ) -> State
-    requires { ⌜ FineRecord (now s) depth at (length (now s)) anItem × (kindAt (now s) at ≡ 83) ⌝ }
-    requires { ⌜ Ready (now s) (lent (now work) (now output) (now errors) (now rows) (now buckets) state) ⌝ }
-    ensures { λ r. ⌜ ItemCheckedAt (now (s .entry)) names depth at (lent (now (work .entry)) (now (output .entry)) (now (errors .entry)) (now (rows .entry)) (now (buckets .entry)) state) (lent (now (work .entry)) (now (output .exit)) (now (errors .exit)) (now (rows .exit)) (now (buckets .exit)) r) ⌝ }
+    requires { ⌜ FineNode (now s) node anItem × (kindAt (now s) (node .at) ≡ kinds.globalDeclaration) ⌝ }
+    requires { ⌜ Ready (now s) (given work output errors rows index state) ⌝ }
+    ensures { λ r. ⌜ ItemNodeChecked (old s) names node
+        (before work output errors rows index state)
+        (after work output errors rows index r) ⌝ }
 {
-    let stop = at + length_at(s, at);
-    let start = at + PARTS;
-    let inner = depth - 1;
-    let declared = convert_node_type(
-        s,
-        Pass { names, fill: true },
-        work,
-        start,
-        inner,
-        output,
-        errors,
-        rows,
-        buckets,
-        state,
-    );
-    let value = start + length_at(s, start);
+    let end = node.at + length_at(s, node.at);
+    let at = node.at + FIELD_END;
+    let depth = node.depth - 1;
+    let first = Node { at, depth };
+    let pass = Pass { names, fill: true };
+    let declared = convert_node_type(s, pass, work, first, output, errors, rows, index, state);
+    let from = at + length_at(s, at);
+    let value = Value {
+        from,
+        end,
+        depth,
+        ty: declared.ty,
+        compare: false,
+    };
     let next = declared.state;
-    initial::type_check_initial(
-        s,
-        names,
-        work,
-        value,
-        stop,
-        inner,
-        false,
-        declared.ty,
-        output,
-        errors,
-        rows,
-        buckets,
-        next,
-    )
+    type_check_initial(s, names, work, value, output, errors, rows, index, next)
 }
 
-// The item at `at`, with so many levels left.
+// An item.
 pub fn type_check_item(
     s: &[u8],
     names: BuiltIns,
     work: &mut [u32],
-    at: usize,
-    depth: usize,
+    node: Node,
     output: &mut [u8],
     errors: &mut [u32],
     rows: &mut [u32],
-    buckets: &mut [u16; lookup::LENGTH],
+    index: &mut [u16; row_index::LENGTH],
     state: State,
 ) -> State
-    requires { ⌜ FineRecord (now s) depth at (length (now s)) anItem ⌝ }
-    requires { ⌜ Ready (now s) (lent (now work) (now output) (now errors) (now rows) (now buckets) state) ⌝ }
-    ensures { λ r. ⌜ ItemCheckedAt (now (s .entry)) names depth at (lent (now (work .entry)) (now (output .entry)) (now (errors .entry)) (now (rows .entry)) (now (buckets .entry)) state) (lent (now (work .exit)) (now (output .exit)) (now (errors .exit)) (now (rows .exit)) (now (buckets .exit)) r) ⌝ }
+    requires { ⌜ FineNode (now s) node anItem ⌝ }
+    requires { ⌜ Ready (now s) (given work output errors rows index state) ⌝ }
+    ensures { λ r. ⌜ ItemNodeChecked (old s) names node
+        (before work output errors rows index state)
+        (after work output errors rows index r) ⌝ }
 {
-    let kind = half(s, at + 4);
+    let kind = half(s, node.at + KIND);
     match kind {
-        FUNCTION => type_check_function(
-            s,
-            names,
-            work,
-            at,
-            depth,
-            output,
-            errors,
-            rows,
-            buckets,
-            state,
-        ),
-        ALIAS => {
-            let converted = convert_node_type(
-                s,
-                Pass { names, fill: true },
-                work,
-                at + ALIAS_PARTS,
-                depth - 1,
-                output,
-                errors,
-                rows,
-                buckets,
-                state,
-            );
-            converted.state
+        FUNCTION_DEFINITION => {
+            type_check_function(s, names, work, node, output, errors, rows, index, state)
         }
-        VARIABLE => type_check_variable(
-            s,
-            names,
-            work,
-            at,
-            depth,
-            output,
-            errors,
-            rows,
-            buckets,
-            state,
-        ),
+        TYPE_ALIAS => type_check_alias(s, names, work, node, output, errors, rows, index, state),
+        GLOBAL_DECLARATION => {
+            type_check_variable(s, names, work, node, output, errors, rows, index, state)
+        }
         _ => state,
     }
 }
 
-// The items from `from` to `end`, in order.
+// Items, in order.
 pub fn type_check_items(
     s: &[u8],
     names: BuiltIns,
     work: &mut [u32],
-    from: usize,
-    end: usize,
-    depth: usize,
+    list: Nodes,
     output: &mut [u8],
     errors: &mut [u32],
     rows: &mut [u32],
-    buckets: &mut [u16; lookup::LENGTH],
+    index: &mut [u16; row_index::LENGTH],
     state: State,
 ) -> State
-    requires { ⌜ FineList (now s) depth from end Items ⌝ }
-    requires { ⌜ Ready (now s) (lent (now work) (now output) (now errors) (now rows) (now buckets) state) ⌝ }
-    ensures { λ r. ⌜ ItemsCheckedAt (now (s .entry)) names depth from end (lent (now (work .entry)) (now (output .entry)) (now (errors .entry)) (now (rows .entry)) (now (buckets .entry)) state) (lent (now (work .exit)) (now (output .exit)) (now (errors .exit)) (now (rows .exit)) (now (buckets .exit)) r) ⌝ }
+    requires { ⌜ FineNodes (now s) list Items ⌝ }
+    requires { ⌜ Ready (now s) (given work output errors rows index state) ⌝ }
+    ensures { λ r. ⌜ ItemNodesChecked (old s) names list
+        (before work output errors rows index state)
+        (after work output errors rows index r) ⌝ }
 {
-    let mut at = from;
+    let end = list.end;
+    let depth = list.depth;
+    let mut at = list.from;
     let mut next = state;
     while at < end {
-        next = type_check_item(
-            s,
-            names,
-            work,
-            at,
-            depth,
-            output,
-            errors,
-            rows,
-            buckets,
-            next,
-        );
-        at = at + length_at(s, at);
+        let node = Node { at, depth };
+        next = type_check_item(s, names, work, node, output, errors, rows, index, next);
+        at += length_at(s, at);
     }
     next
 }

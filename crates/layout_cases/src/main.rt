@@ -1,5 +1,5 @@
-// Judges modules by tests 1 to 4, and prints a line for each: `good`, or `refused 2 at 40`. Standard input is a list of commands
-// (tools/layout_cases.py).
+// Judges modules by tests 1 to 4, and prints a line for each: `good`, or `refused 2 at 40`. Standard input is a list
+// of commands (tools/layout_cases.py).
 use libc::STDIN_FILENO;
 use libc::STDOUT_FILENO;
 use node::layout::Layout;

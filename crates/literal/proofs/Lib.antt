@@ -1,3 +1,2 @@
 pub mod Digit
 pub mod Laws
-pub mod Bench

@@ -1,6 +1,7 @@
 // Integer literals: `u16::from_str_radix` on bytes.
 ghost use mathlib.Core.Path.{_≡_};
 ghost use Prim.Native.Nat.{_≤_};
+ghost use Rattle.contract.specs.Moments.{old};
 ghost use Rattle.literal.specs.Literal.{digitValue, parseDigits, fromStrRadix, parsedValue};
 
 // What reading a literal finds.
@@ -30,7 +31,7 @@ fn digit_value(byte: u8) -> u32
 // Reads digits without a sign, and stops where a byte is no digit of the base or the value passes `u16::MAX`.
 fn parse_digits(digits: &[u8], base: u32) -> Parsed
     requires { ⌜ (2 ≤ base) × (base ≤ 36) ⌝ }
-    ensures { λ r. ⌜ parsedValue r ≡ parseDigits base (now (digits .entry)) ⌝ }
+    ensures { λ r. ⌜ parsedValue r ≡ parseDigits base (old digits) ⌝ }
 {
     if digits.len() < 1 {
         return Parsed::Invalid;
@@ -53,7 +54,7 @@ fn parse_digits(digits: &[u8], base: u32) -> Parsed
 
 // Reads a literal: perhaps a `+`, then digits of a base of 2 to 36, letters of either case.
 pub fn from_str_radix(text: &[u8], base: u32) -> Parsed
-    ensures { λ r. ⌜ parsedValue r ≡ fromStrRadix base (now (text .entry)) ⌝ }
+    ensures { λ r. ⌜ parsedValue r ≡ fromStrRadix base (old text) ⌝ }
 {
     if base < MIN_BASE {
         return Parsed::Invalid;

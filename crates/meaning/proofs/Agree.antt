@@ -8,10 +8,10 @@ use Rattle.types.specs.Ty.{Ty, pointer, array, struct, field, function, argumen
 use Rattle.node.specs.Tree.{TypeNode, nameType, voidType, pointerType, arrayType, structType, noFields, fieldThen, Parameter, Item, functionDefinition, typeAlias, globalDeclaration, otherItem}
 use Rattle.meaning.specs.TypeError.{TypeError, unless, unknownType}
 use Rattle.meaning.specs.Context.{TypeMap, Entry, entry, ModuleContext, typeNamed, isSome, orUnknown, each}
-use Rattle.meaning.specs.Convert.{Slot, slot, convertNodeType, conversionErrors, conversionSlots}
+use Rattle.meaning.specs.Convert.{slot, convertNodeType, conversionErrors, conversionSlots}
 use Rattle.meaning.specs.Module.{parameterErrors, argumentCells, aliasErrors, isStored, aliased, isTaken, aliasEntries, globalEntries, declarationErrors, slotType, parameterTypes, declaredTypes}
 use Rattle.meaning.proofs.Maps.{keys}
-use Rattle.meaning.specs.JoiningOrder.{namedIn, namedInParameter, declaredNames, aliasName, globalName}
+use Rattle.meaning.specs.JoiningOrder.{namedIn, namedInParameter, namesInDeclaredTypes, aliasName, globalName}
 
 -- What pass 1 takes from an item: its errors, the types that it converts, and what it stores
 pub record Declared : Type 0 where
@@ -97,9 +97,9 @@ module _ (c d : ModuleContext) where
       (same-parameter-errors ps (same-right (namedInParameter p) (each namedInParameter ps) h))
 
   -- An item
-  pub same-declared : (taken : Bool) (item : Item) → c .builtIns ≡ d .builtIns → SameNamed c d (declaredNames item)
+  pub same-declared : (taken : Bool) (item : Item) → c .builtIns ≡ d .builtIns → SameNamed c d (namesInDeclaredTypes item)
       → declared c taken item ≡ declared d taken item
-  unfolding declarationErrors declaredTypes aliasEntries globalEntries declaredNames
+  unfolding declarationErrors declaredTypes aliasEntries globalEntries namesInDeclaredTypes
   same-declared taken (functionDefinition l name returned parameters body) b h =
       let first = same-left (namedIn returned) (each namedInParameter parameters) h in
       let later = same-right (namedIn returned) (each namedInParameter parameters) h in

@@ -22,6 +22,8 @@ bench-sheet =
       plus-7 = refl;
       plus-alone = refl;
       no-digits = refl;
+      upper-FFFF = refl;
+      minus-7 = refl;
       transparent-alias = refl;
       distinct-alias = refl;
       array-decays = refl;
@@ -31,4 +33,5 @@ bench-sheet =
       loop-in-loop = refl;
       words-65535 = refl;
       words-65536 = refl;
+      words-none = refl;
     }

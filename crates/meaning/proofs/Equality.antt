@@ -1,34 +1,20 @@
 -- The tests of equality decide it, and counts that use them do not depend on the order of a list.
 use Prim.Native.Nat.{ℕ, suc}
 use mathlib.Core.Path.{_≡_, refl, sym, ap, ap₂}
-use mathlib.Core.Bool.{Bool, true, false, cond, _&&_, _||_, true≢false}
-use mathlib.Core.List.{List, [], _∷_, List·Permᴰ}
+use mathlib.Core.Bool.{Bool, true, false, cond, _||_, true≢false}
+use mathlib.Core.List.{List, _∷_, List·Permᴰ}
 use lib.Dec.{eqb}
 use borrow.Author.Tests.{eq-eqb, eqb-true}
 use Rattle.types.specs.Ty.{Ty, same, member, distinctCount}
 use Rattle.types.proofs.Laws.{same-refl, same-true}
 use Rattle.meaning.specs.TypeError.{TypeError, Operand, plain, row}
 use Rattle.node.specs.Names.{sameBytes}
+use Rattle.node.proofs.NameLaws.{same-refl as bytes-reflexive, same-true as bytes-sound}
+use Rattle.shape.proofs.ShapeLaws.{and-both}
 use Rattle.meaning.specs.JoiningOrder.{sameOperand, sameError}
 use Rattle.meaning.proofs.Permutation.{DecidesEqual, invariant}
 
-both : (a b : Bool) → (a && b) ≡ true → (a ≡ true) × (b ≡ true)
-both true b e = (refl, e)
-both false b e = absurd (true≢false (sym e))
-
 -- Bytes
-bytes-reflexive : (a : List ℕ) → sameBytes a a ≡ true
-unfolding sameBytes
-bytes-reflexive [] = refl
-bytes-reflexive (x ∷ a) = rw (eq-eqb x x refl, bytes-reflexive a)
-
-bytes-sound : (a b : List ℕ) → sameBytes a b ≡ true → a ≡ b
-unfolding sameBytes
-bytes-sound [] [] e = refl
-bytes-sound [] (y ∷ b) e = absurd (true≢false (sym e))
-bytes-sound (x ∷ a) [] e = absurd (true≢false (sym e))
-bytes-sound (x ∷ a) (y ∷ b) e = let p = both (eqb x y) (sameBytes a b) e in ap₂ (λ z c. z ∷ c) (eqb-true x y (p .0)) (bytes-sound a b (p .1))
-
 pub bytes-equal : DecidesEqual sameBytes
 bytes-equal = record { reflexive = bytes-reflexive; sound = bytes-sound }
 
@@ -52,12 +38,12 @@ error-reflexive e =
 
 error-sound : (e f : TypeError) → sameError e f ≡ true → e ≡ f
 error-sound e f h =
-    let third = both _ (sameOperand (e .third) (f .third)) h in
-    let second = both _ (sameOperand (e .second) (f .second)) (third .0) in
-    let first = both _ (sameOperand (e .first) (f .first)) (second .0) in
-    let column = both _ (eqb (e .column) (f .column)) (first .0) in
-    let line = both _ (eqb (e .line) (f .line)) (column .0) in
-    let file = both (eqb (e .kind) (f .kind)) (eqb (e .file) (f .file)) (line .0) in
+    let third = and-both _ (sameOperand (e .third) (f .third)) h in
+    let second = and-both _ (sameOperand (e .second) (f .second)) (third .0) in
+    let first = and-both _ (sameOperand (e .first) (f .first)) (second .0) in
+    let column = and-both _ (eqb (e .column) (f .column)) (first .0) in
+    let line = and-both _ (eqb (e .line) (f .line)) (column .0) in
+    let file = and-both (eqb (e .kind) (f .kind)) (eqb (e .file) (f .file)) (line .0) in
     λ i. record {
       kind = eqb-true (e .kind) (f .kind) (file .0) i;
       file = eqb-true (e .file) (f .file) (file .1) i;

@@ -4,6 +4,7 @@ pub mod Equality
 pub mod Maps
 pub mod Agree
 pub mod Places
+pub mod After
 pub mod Order
 pub mod Size
 pub mod Whole

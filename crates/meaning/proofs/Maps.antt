@@ -12,7 +12,7 @@ use Rattle.meaning.specs.Context.{TypeMap, Entry, insert, insertAll}
 abbrev pub keys : List Entry → List ℕ
 keys entries = map (λ (e : Entry). e .name) entries
 
-insert-other : (e : Entry) (m : TypeMap) (name : ℕ) → name ≢ e .name → insert e m name ≡ m name
+pub insert-other : (e : Entry) (m : TypeMap) (name : ℕ) → name ≢ e .name → insert e m name ≡ m name
 insert-other e m name h = rw (ne-eqb name (e .name) h)
 
 pub all-other : (es : List Entry) (m : TypeMap) (name : ℕ) → ¬ List·Mem name (keys es) → insertAll es m name ≡ m name

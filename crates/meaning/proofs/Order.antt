@@ -10,7 +10,7 @@ use Rattle.types.specs.Ty.{parts, fixedTypes}
 use Rattle.node.specs.Tree.{Item}
 use Rattle.meaning.specs.Context.{TypeMap, insertAll, each, ModuleContext, orElse}
 use Rattle.meaning.specs.Module.{isTaken, aliasEntries, globalEntries, declare, Declaration, declarations, declareAll, emptyContext, moduleContext, entryType, itemErrors, itemTypes, moduleErrors, typesMet, neededTypes}
-use Rattle.meaning.specs.JoiningOrder.{declaredNames, aliasName, globalName}
+use Rattle.meaning.specs.JoiningOrder.{namesInDeclaredTypes, aliasName, globalName}
 use Rattle.meaning.proofs.Permutation.{along, each-permuted}
 use Rattle.meaning.proofs.Agree.{Declared, declared, SameNamed, same-declared, free-declared, alias-keys, global-keys}
 use Rattle.meaning.proofs.Maps.{keys, all-other, all-past}
@@ -46,7 +46,7 @@ kept ctx (i ∷ is) name h =
     kept (declare ctx i) is name (λ m. h (mem-append-right (aliasName i) m))
     ∙ alias-other ctx (isTaken (ctx .typeAliases) i) i (ctx .typeAliases) name (λ m. h (mem-append-left (each aliasName is) m))
 
-builtIns-kept : (ctx : ModuleContext) (is : List Item) → declareAll ctx is .builtIns ≡ ctx .builtIns
+pub builtIns-kept : (ctx : ModuleContext) (is : List Item) → declareAll ctx is .builtIns ≡ ctx .builtIns
 unfolding declareAll
 builtIns-kept ctx [] = refl
 builtIns-kept ctx (i ∷ is) = builtIns-kept (declare ctx i) is
@@ -60,7 +60,7 @@ settled ctx [] p u free = refl
 settled ctx (i ∷ is) p u free =
     let later = declareAll ctx (i ∷ is) in
     let builtIns = sym (builtIns-kept ctx (i ∷ is)) in
-    let named : SameNamed ctx later (declaredNames i) =
+    let named : SameNamed ctx later (namesInDeclaredTypes i) =
     λ name m. ap₂ orElse (sym (kept ctx (i ∷ is) name (p .0 name m))) (ap (λ (b : TypeMap). b name) builtIns) in
     let stays : (name : ℕ) → List·Mem name (each aliasName is) → declare ctx i .typeAliases name ≡ ctx .typeAliases name =
     λ name m. alias-other ctx (isTaken (ctx .typeAliases) i) i (ctx .typeAliases) name (λ x. nodup-append .0 u .2 name x m) in
@@ -93,7 +93,7 @@ module _ (c d : ModuleContext) where
   unique ctx (i ∷ is) p x y =
       unique (after ctx (declared c false i)) is (p .1) x (y ∙ ap (λ e. afterAll (after ctx e) (declaredIn d is)) (sym first))
     where
-      named : (k : ModuleContext) → k ≡ afterAll ctx (declaredIn k (i ∷ is)) → (name : ℕ) → List·Mem name (declaredNames i)
+      named : (k : ModuleContext) → k ≡ afterAll ctx (declaredIn k (i ∷ is)) → (name : ℕ) → List·Mem name (namesInDeclaredTypes i)
           → k .typeAliases name ≡ ctx .typeAliases name
       named k z name m = ap (λ (q : ModuleContext). q .typeAliases name) z ∙ declared-kept k ctx (i ∷ is) name (p .0 name m)
 

@@ -7,12 +7,12 @@ use native.Mathlib.Omega.{arith}
 use lib.ListN.{length, getD}
 use Rattle.node.specs.Tree.{Item, otherItem}
 use Rattle.meaning.specs.Context.{each}
-use Rattle.meaning.specs.JoiningOrder.{declaredNames, aliasName}
+use Rattle.meaning.specs.JoiningOrder.{namesInDeclaredTypes, aliasName}
 
 -- No alias at or after an item has a name that the item's declared types name
 unfoldable pub Precede : List Item → Type 0
 Precede [] = Unit {0}
-Precede (i ∷ is) = ((name : ℕ) → List·Mem name (declaredNames i) → ¬ List·Mem name (each aliasName (i ∷ is))) × Precede is
+Precede (i ∷ is) = ((name : ℕ) → List·Mem name (namesInDeclaredTypes i) → ¬ List·Mem name (each aliasName (i ∷ is))) × Precede is
 
 abbrev at : List Item → (i : ℕ) → Item
 at items i = getD items i otherItem
@@ -20,7 +20,7 @@ at items i = getD items i otherItem
 -- An alias (item j) that an item's declared types (item i) name stands at an earlier place
 abbrev pub PrecedeByPlace : List Item → Type 0
 PrecedeByPlace items =
-    (i j name : ℕ) → i < length items → j < length items → List·Mem name (declaredNames (at items i)) → List·Mem name (aliasName (at items j)) → j < i
+    (i j name : ℕ) → i < length items → j < length items → List·Mem name (namesInDeclaredTypes (at items i)) → List·Mem name (aliasName (at items j)) → j < i
 
 -- A member of the joined lists is one of a list at some place
 place-of : (f : Item → List ℕ) (items : List Item) (name : ℕ) → List·Mem name (each f items)

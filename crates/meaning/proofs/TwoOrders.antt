@@ -14,16 +14,14 @@ use Rattle.node.specs.Layout.{layoutOf, listAt, recordAt, headAt, isBad}
 use Rattle.node.specs.Names.{chain, stands, namesEnd, namePlaces, nameBytes, namesOf, nameCount, itemPlaces, itemBytes, itemsOf, sameBytes}
 use Rattle.node.specs.Record.{recordsWith, recordsAt, toType, itemTree}
 use Rattle.node.specs.Tree.{location, nameType, noValue, Item, typeAlias, globalDeclaration}
+use Rattle.node.specs.Example.{word}
 use Rattle.meaning.specs.Context.{each}
 use Rattle.meaning.specs.Promise.{treesOf}
-use Rattle.meaning.specs.JoiningOrder.{AnotherOrder, Supposed, namedIn, declaredNames, globalName, aliasName}
+use Rattle.meaning.specs.JoiningOrder.{AnotherOrder, Supposed, namedIn, namesInDeclaredTypes, globalName, aliasName}
 use Rattle.meaning.proofs.Permutation.{times-permuted}
 use Rattle.meaning.proofs.Places.{PrecedeByPlace}
 
--- A number below 256 in four bytes, and a record of fewer than 256 bytes, all else in its head being 0
-abbrev word : ℕ → List ℕ
-word n = n ∷ 0 ∷ 0 ∷ 0 ∷ []
-
+-- A record of fewer than 256 bytes, all else in its head being 0
 abbrev recordOf : (kind : ℕ) → (body : List ℕ) → List ℕ
 recordOf kind body = word (16 + length body) ++ (word kind ++ (word 0 ++ (word 0 ++ body)))
 
@@ -57,7 +55,7 @@ treesIn first second = treeA ∷ treeOf first ∷ treeOf second ∷ []
 
 -- Only the variables name A, and they come after it
 alias-first : (a b : ℕ) → PrecedeByPlace (treesIn a b)
-unfolding declaredNames aliasName namedIn
+unfolding namesInDeclaredTypes aliasName namedIn
 alias-first a b zero zero name p q named m =
     let x : name ≡ 0 = mem-singleton ℕ-set .0 named in
     let y : name ≡ 1 = mem-singleton ℕ-set .0 m in

@@ -8,14 +8,14 @@ use lib.Dec.{ltb}
 use lib.ListN.{length}
 use Rattle.types.specs.Ty.{Ty}
 use Rattle.types.specs.Table.{rowWidth}
-use Rattle.fallible.specs.Outcome.{Outcome, refused, accepted}
+use Rattle.fallible.specs.Outcome.{Outcome, refused, accepted, firstRefusing, outcomeAfter}
 use Rattle.fallible.specs.Errors.{errorWidth}
 use Rattle.node.specs.Record.{itemTree}
 use Rattle.node.specs.Layout.{layoutRefusal}
 use Rattle.node.specs.Names.{sameBytes, itemsOf, nameRefusal}
 use Rattle.meaning.specs.Context.{TypeMap}
 use Rattle.meaning.specs.Module.{moduleContext, moduleErrors, neededTypes, itemTypes}
-use Rattle.meaning.specs.Promise.{workWidth, builtInTypes, treesOf, builtInsOf, contextOf, errorsOf, typesOf, Counts, countsOf, Lengths, lengthsOf, refuseIf, firstRefusal, answerOf, ItemFilled, Accepted}
+use Rattle.meaning.specs.Promise.{workWidth, builtInTypes, treesOf, builtInsOf, contextOf, errorsOf, typesOf, Counts, countsOf, Lengths, lengthsOf, refuseIf, answerOf, ItemFilled, Accepted}
 use Rattle.meaning.specs.JoiningOrder.{AnotherOrder, Supposed, Alike, AcceptedAlike, SameOutcome, JoiningOrder, timesIn, sameError}
 use Rattle.meaning.proofs.Permutation.{permutation, invariant, length-permuted, times-permuted}
 use Rattle.meaning.proofs.Equality.{bytes-equal, distinct-permuted}
@@ -78,13 +78,14 @@ module _ (m k : List ℕ) (other : AnotherOrder m k) (sm : Supposed m) (sk : Sup
   answers : (lent : Lengths) → answerOf m lent ≡ answerOf k lent
   unfolding answerOf
   answers lent =
-      λ i. firstRefusal
+      λ i. outcomeAfter
+      (firstRefusing
       (layoutRefusal ((sm .layout ∙ sym (sk .layout)) i)
       ∷ nameRefusal (same-repeated m k (sm .layout) (sk .layout) (other .names) i)
       ∷ refuseIf (ltb (lent .output) (lengths i) || ltb (lent .work) (workWidth * length (other .names i))) 5
       ∷ refuseIf (ltb (lent .rows) (rowWidth * counts i .rows)) 6
       ∷ refuseIf (ltb (lent .errors) (errorWidth * counts i .errors)) 7
-      ∷ [])
+      ∷ []))
       (accepted (counts i))
 
 -- Demand 3

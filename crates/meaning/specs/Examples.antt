@@ -1,37 +1,22 @@
 -- Worked examples: document 01's module of 112 bytes, and the order in which the two passes convert a function's types.
 use Prim.Native.Nat.{ℕ}
 use mathlib.Core.Path.{_≡_}
-use mathlib.Core.List.{List, [], _∷_, _++_}
+use mathlib.Core.List.{List, [], _∷_}
 use mathlib.Core.Option.{none}
 use Rattle.types.specs.Ty.{u16}
 use Rattle.fallible.specs.Outcome.{accepted}
-use Rattle.node.specs.Tree.{Location, location, nameType, pointerType, Parameter, Item, functionDefinition, typeAlias, globalDeclaration, noValue}
+use Rattle.node.specs.Tree.{Location, location, nameType, pointerType, Item, functionDefinition, typeAlias}
+use Rattle.node.specs.Tree.{globalDeclaration, noValue}
 use mathlib.Core.Bool.{false}
+use Rattle.node.specs.Example.{example}
 use Rattle.meaning.specs.TypeError.{error, unknownType, plain}
 use Rattle.meaning.specs.Context.{TypeMap, noTypes, entry, insert}
 use Rattle.meaning.specs.Module.{moduleErrors, rowCount}
 use Rattle.meaning.specs.Promise.{Lengths, errorsOf, answerOf}
 
--- A record's head: length, kind, file 0, line, column; and a field
-abbrev pub head : (length kind line column : ℕ) → List ℕ
-head l k n c = l ∷ 0 ∷ 0 ∷ 0 ∷ k ∷ 0 ∷ 0 ∷ 0 ∷ n ∷ 0 ∷ 0 ∷ 0 ∷ c ∷ 0 ∷ 0 ∷ 0 ∷ []
-
-abbrev pub word : ℕ → List ℕ
-word n = n ∷ 0 ∷ 0 ∷ 0 ∷ []
-
--- Names x and u17, one global x without value, its type record u17 at file 0, line 3, column 8
-abbrev pub example : List ℕ
-example =
-    head 112 1 0 0
-    ++ head 52 2 0 0
-    ++ head 17 3 0 0 ++ (120 ∷ [])
-    ++ head 19 3 0 0 ++ (117 ∷ 49 ∷ 55 ∷ [])
-    ++ head 44 83 3 1 ++ word 0
-    ++ head 24 16 3 8 ++ word 0 ++ word 1
-
 -- What the report program lends: 3,000 rows, 2,000 errors, 16,376 working words
-abbrev pub lent : Lengths
-lent = record { output = 65537; rows = 12000; errors = 14000; work = 16376 }
+abbrev pub reportLoans : Lengths
+reportLoans = record { output = 65537; rows = 12000; errors = 14000; work = 16376 }
 
 -- Line l
 abbrev pub line : ℕ → Location
@@ -50,7 +35,7 @@ builtIn = insert (entry 0 u16) noTypes
 
 pub record Examples : Type 0 where
   -- rows 7 errors 2, 1 0 3 8 twice
-  pub answer : answerOf example lent ≡ accepted (record { rows = 7; errors = 2 })
+  pub answer : answerOf example reportLoans ≡ accepted (record { rows = 7; errors = 2 })
   pub errors : errorsOf example ≡ error 1 (location 0 0 3 8) (plain 1) (plain 0) (plain 0) ∷ error 1 (location 0 0 3 8) (plain 1) (plain 0) (plain 0) ∷ []
   -- Pass 1 converts the returned type and then the parameters, pass 2 the parameters and then the returned type
   pub conversions : moduleErrors noTypes (unknownTypes ∷ [])

@@ -12,10 +12,12 @@ use Rattle.node.specs.Layout.{layoutOf}
 use Rattle.node.specs.declared.layout.Layout.the-variants.{Good}
 use Rattle.node.specs.Names.{namesOf, itemsOf, sameBytes}
 use Rattle.node.specs.Record.{itemSlotPlaces}
-use Rattle.node.specs.Tree.{TypeNode, nameType, voidType, pointerType, arrayType, structType, noFields, fieldThen, Parameter, Item, functionDefinition, typeAlias, globalDeclaration, otherItem}
+use Rattle.node.specs.Tree.{TypeNode, nameType, voidType, pointerType, arrayType, structType, noFields, fieldThen}
+use Rattle.node.specs.Tree.{Parameter, Item, functionDefinition, typeAlias, globalDeclaration, otherItem}
 use Rattle.meaning.specs.TypeError.{TypeError, Operand, plain, row}
 use Rattle.meaning.specs.Context.{each}
-use Rattle.meaning.specs.Promise.{Counts, Buffers, lengthsOf, Checked, treesOf, itemAt, outputAt, itemCount, inSlot, slotTypes, errorListOf}
+use Rattle.meaning.specs.Promise.{Counts, Buffers, lengthsOf, Checked, treesOf, itemAt, outputAt, itemCount}
+use Rattle.meaning.specs.Promise.{inSlot, slotTypes, errorListOf}
 
 -- A run: what it was given, what it left and what it answered
 pub record Run : Type 0 where
@@ -52,11 +54,11 @@ abbrev pub namedInParameter : Parameter → List ℕ
 namedInParameter p = namedIn (p .type)
 
 -- What an item's declared types name: the T records directly in it and in its parameters
-unfoldable pub declaredNames : Item → List ℕ
-declaredNames (functionDefinition l name returned parameters body) = namedIn returned ++ each namedInParameter parameters
-declaredNames (typeAlias l name isDistinct internal t) = namedIn t
-declaredNames (globalDeclaration l name t value) = namedIn t
-declaredNames otherItem = []
+unfoldable pub namesInDeclaredTypes : Item → List ℕ
+namesInDeclaredTypes (functionDefinition l name returned parameters body) = namedIn returned ++ each namedInParameter parameters
+namesInDeclaredTypes (typeAlias l name isDistinct internal t) = namedIn t
+namesInDeclaredTypes (globalDeclaration l name t value) = namedIn t
+namesInDeclaredTypes otherItem = []
 
 -- The name of a function or a variable
 unfoldable pub globalName : Item → List ℕ
@@ -85,7 +87,7 @@ pub record Supposed (input : List ℕ) : Type 0 where
   pub aliases : List·Nodup (each aliasName (treesOf input))
   -- every such alias (item j) precedes each item (i) whose declared types name it
   pub precedes : (i j name : ℕ) → i < length (treesOf input) → j < length (treesOf input)
-      → List·Mem name (declaredNames (treeAt input i)) → List·Mem name (aliasName (treeAt input j)) → j < i
+      → List·Mem name (namesInDeclaredTypes (treeAt input i)) → List·Mem name (aliasName (treeAt input j)) → j < i
 
 -- Two items of the same input bytes are alike: their output agrees outside the slots, and their slots' rows unfold to the same
 pub record Alike (bytes output rows output′ rows′ : List ℕ) : Type 0 where

@@ -1,13 +1,17 @@
 -- `type_check_module`: pass 1 over the items' declared types, pass 2 over the items.
-use Prim.Native.Nat.{ℕ, zero, suc}
+use Prim.Native.Nat.{ℕ}
 use mathlib.Core.Bool.{Bool, true, false, cond, _||_}
 use mathlib.Core.List.{List, [], _∷_, _++_, map}
 use mathlib.Core.Option.{Option, none, some}
 use lib.ListN.{length}
-use Rattle.types.specs.Ty.{Ty, end, void, function, argument, alias, distinct, same, removeAliasing, parts, fixedTypes, distinctCount}
-use Rattle.node.specs.Tree.{Location, TypeNode, Statement, Parameter, Item, functionDefinition, typeAlias, globalDeclaration, otherItem}
-use Rattle.meaning.specs.TypeError.{TypeError, unless, noBuiltInForInternal, internalMismatch, duplicateAlias, aliasOfBuiltIn, pathsWithoutReturn}
-use Rattle.meaning.specs.Context.{TypeMap, noTypes, isSome, Entry, entry, insertAll, each, ModuleContext, Context, context, blank}
+use Rattle.types.specs.Ty.{Ty, end, void, function, argument, alias, distinct, same, removeAliasing, parts, fixedTypes}
+use Rattle.types.specs.Ty.{distinctCount}
+use Rattle.node.specs.Tree.{Location, TypeNode, Statement, Parameter, Item, functionDefinition, typeAlias}
+use Rattle.node.specs.Tree.{globalDeclaration, otherItem}
+use Rattle.meaning.specs.TypeError.{TypeError, unless, noBuiltInForInternal, internalMismatch, duplicateAlias}
+use Rattle.meaning.specs.TypeError.{aliasOfBuiltIn, pathsWithoutReturn}
+use Rattle.meaning.specs.Context.{TypeMap, noTypes, isSome, Entry, entry, insertAll, each, ModuleContext, Context}
+use Rattle.meaning.specs.Context.{context, blank}
 use Rattle.meaning.specs.Convert.{Slot, convertNodeType, conversionErrors, conversionSlots}
 use Rattle.meaning.specs.Compound.{globalInitialErrors, initialSlots}
 use Rattle.meaning.specs.Statement.{statementErrors, statementSlots}

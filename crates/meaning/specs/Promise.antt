@@ -1,14 +1,14 @@
 -- What `type_check_module` promises: its answer, and every word of every buffer lent, before to after. Only the numbering of the rows is free.
-use Prim.Native.Nat.{ℕ, zero, suc, _+_, _*_, _≤_, _<_}
+use Prim.Native.Nat.{ℕ, _+_, _*_, _≤_, _<_}
 use mathlib.Core.Path.{_≡_}
 use mathlib.Core.Bool.{Bool, true, false, cond, _&&_, _||_}
 use mathlib.Core.List.{List, [], _∷_, _++_, map, List·Mem}
 use mathlib.Core.Option.{Option, none, some}
-use lib.Dec.{eqb, leb, ltb}
+use lib.Dec.{leb, ltb}
 use lib.ListN.{length, getD, take, drop, replicate}
 use Rattle.types.specs.Ty.{Ty, u16, i16, bool, string, member, distinctCount}
 use Rattle.types.specs.Table.{rowWidth, unfolded, hasType, Table, IsType}
-use Rattle.fallible.specs.Outcome.{Outcome, refused, accepted}
+use Rattle.fallible.specs.Outcome.{Outcome, refused, accepted, firstRefusing, outcomeAfter}
 use Rattle.fallible.specs.Operands.{isTypeOperand}
 use Rattle.fallible.specs.Errors.{errorWidth, errorAt, errorsFrom}
 use Rattle.fallible.specs.declared.Error.{Error}
@@ -91,16 +91,8 @@ tests input lent =
     ∷ []
 
 -- The first test that refuses decides; else the counts are the answer
-abbrev pub outcomeAfter : Option (ℕ × ℕ) → Outcome Counts → Outcome Counts
-outcomeAfter none other = other
-outcomeAfter (some r) other = refused (r .0) (r .1)
-
-abbrev pub firstRefusal : List (Option (ℕ × ℕ)) → Outcome Counts → Outcome Counts
-firstRefusal [] other = other
-firstRefusal (t ∷ ts) other = outcomeAfter t (firstRefusal ts other)
-
 unfoldable pub answerOf : (input : List ℕ) → Lengths → Outcome Counts
-answerOf input lent = firstRefusal (tests input lent) (accepted (countsOf input))
+answerOf input lent = outcomeAfter (firstRefusing (tests input lent)) (accepted (countsOf input))
 
 -- The first n are 0, the rest is as it was
 abbrev pub cleared : (n : ℕ) → List ℕ → List ℕ

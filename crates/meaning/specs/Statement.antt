@@ -1,10 +1,12 @@
 -- `type_check_statement`: the context after an S record, its errors, and its slots in byte order.
 use Prim.Native.Nat.{ℕ}
-use mathlib.Core.Bool.{Bool, true, false, cond, not}
+use mathlib.Core.Bool.{Bool, cond, not}
 use mathlib.Core.List.{List, [], _∷_, _++_}
 use mathlib.Core.Option.{Option, none, some}
 use Rattle.types.specs.Ty.{Ty, void, bool, same}
-use Rattle.node.specs.Tree.{Location, TypeNode, Expression, Statement, block, expression, variableDeclaration, assignment, compoundAssignment, return, loop, while, break, «if», ifElse, inlineAssembly, noStatements, statementThen}
+use Rattle.node.specs.Tree.{Location, Expression, Statement, block, expression, variableDeclaration}
+use Rattle.node.specs.Tree.{assignment, compoundAssignment, return, loop, while, break, «if», ifElse, inlineAssembly}
+use Rattle.node.specs.Tree.{noStatements, statementThen}
 use Rattle.meaning.specs.TypeError.{TypeError, unless, localRedefined, returnNeedsValue}
 use Rattle.meaning.specs.Context.{Context, context, Entry, entry, insert, isSome}
 use Rattle.meaning.specs.Convert.{Slot, convertNodeType, conversionErrors, conversionSlots}
@@ -39,6 +41,23 @@ contextAfter ctx (ifElse l condition trueBody falseBody) = contextAfter (context
 contextAfter ctx (inlineAssembly l) = ctx
 contextAfter ctx noStatements = ctx
 contextAfter ctx (statementThen s rest) = contextAfter (contextAfter ctx s) rest
+
+-- The names of the variables that a statement declares, at any depth
+unfoldable pub declaredNames : Statement → List ℕ
+declaredNames (block l members) = declaredNames members
+declaredNames (expression l e) = []
+declaredNames (variableDeclaration l name t value) = name ∷ []
+declaredNames (assignment l target value) = []
+declaredNames (compoundAssignment l target value) = []
+declaredNames (return l value) = []
+declaredNames (loop l body) = declaredNames body
+declaredNames (while l condition body) = declaredNames body
+declaredNames (break l) = []
+declaredNames («if» l condition body) = declaredNames body
+declaredNames (ifElse l condition trueBody falseBody) = declaredNames trueBody ++ declaredNames falseBody
+declaredNames (inlineAssembly l) = []
+declaredNames noStatements = []
+declaredNames (statementThen s rest) = declaredNames s ++ declaredNames rest
 
 -- Return without a value is permitted only where void itself is returned
 abbrev pub returnErrors : Context → Location → Option Expression → List TypeError

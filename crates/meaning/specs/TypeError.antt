@@ -1,6 +1,6 @@
 -- The 29 errors of document 01, "Errors": operands that are rows there are unfolded types here.
 use Prim.Native.Nat.{ℕ}
-use mathlib.Core.Bool.{Bool, true, false, cond}
+use mathlib.Core.Bool.{Bool, cond}
 use mathlib.Core.List.{List, [], _∷_}
 use Rattle.types.specs.Ty.{Ty}
 use Rattle.node.specs.Tree.{Location}

@@ -1,5 +1,4 @@
--- Document 01's module of 112 bytes: names x and u17, one global x without value, its type record u17 at file 0, line 3, column 8.
--- Its layout, names and items, and the faults of some shorter files, by computation. Assumes nothing.
+-- Of document 01's module of 112 bytes the layout, names and items, and the faults of some shorter files, by computation. Assumes nothing.
 use Prim.Native.Nat.{ℕ}
 use mathlib.Core.Path.{_≡_, refl}
 use mathlib.Core.List.{List, [], _∷_, _++_, map}
@@ -9,26 +8,11 @@ use Rattle.shape.specs.Shape.{shapeOf, dueIn, isDone, mayStand, stateAfter, all
 use Rattle.node.specs.Bytes.{halfAt, wordAt}
 use Rattle.node.specs.Names.{stands, chain, namesEnd, namePlaces, nameBytes, namesOf, nameCount, sameBytes, isAmong, indexOf, numberOf, repeatIn, repeatedName, nameRefusal, itemPlaces, itemBytes, itemsOf}
 use Rattle.node.specs.Layout.{isBad, headAt, listAt, recordAt, layoutOf, layoutRefusal}
-use Rattle.node.specs.Tree.{location, nameType, noValue, Item, globalDeclaration}
+use Rattle.node.specs.Tree.{location, nameType, noValue, globalDeclaration}
 use Rattle.node.specs.Record.{recordsWith, recordsAt, toType, itemTree, slotPlaces, itemSlotPlaces}
+use Rattle.node.specs.Example.{head, word, example}
 use Rattle.node.specs.declared.names.Repeated.the-variants.{Nowhere}
 use Rattle.node.specs.declared.layout.Layout.the-variants.{Good}
-
--- a record's head: length, kind, file 0, line, column
-abbrev pub head : (len kind line column : ℕ) → List ℕ
-head l k n c = l ∷ 0 ∷ 0 ∷ 0 ∷ k ∷ 0 ∷ 0 ∷ 0 ∷ n ∷ 0 ∷ 0 ∷ 0 ∷ c ∷ 0 ∷ 0 ∷ 0 ∷ []
-
-abbrev pub word : ℕ → List ℕ
-word n = n ∷ 0 ∷ 0 ∷ 0 ∷ []
-
-abbrev pub example : List ℕ
-example =
-    head 112 1 0 0
-    ++ head 52 2 0 0
-    ++ head 17 3 0 0 ++ (120 ∷ [])
-    ++ head 19 3 0 0 ++ (117 ∷ 49 ∷ 55 ∷ [])
-    ++ head 44 83 3 1 ++ word 0
-    ++ head 24 16 3 8 ++ word 0 ++ word 1
 
 good : (length example ≡ 112) × (layoutOf example ≡ Good) × (nameCount example ≡ 2) × (namesOf example ≡ (120 ∷ []) ∷ (117 ∷ 49 ∷ 55 ∷ []) ∷ []) × (itemPlaces example ≡ 68 ∷ []) × (repeatedName example ≡ Nowhere) × (numberOf example (117 ∷ 49 ∷ 54 ∷ []) ≡ 2)
 unfolding halfAt wordAt shapeOf dueIn isDone mayStand stateAfter allowed stands chain namesEnd namePlaces nameBytes namesOf nameCount sameBytes isAmong indexOf numberOf repeatIn repeatedName itemPlaces isBad headAt listAt recordAt layoutOf

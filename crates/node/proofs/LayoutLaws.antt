@@ -17,12 +17,13 @@ use Rattle.shape.specs.declared.Due.{Due}
 use Rattle.shape.proofs.ShapeLaws.{and-both}
 use Rattle.node.specs.Bytes.{halfAt, wordAt}
 use Rattle.node.specs.Names.{nameCount}
-use Rattle.node.specs.Layout.{maxBytes, maxDepth, shapeAt, startAt, stopAt, isWhole, isBad, headAt, andThen, afterHead, listStep, listAt, recordAt, layoutOf, Walked}
+use Rattle.node.specs.Layout.{maxBytes, maxDepth, shapeAt, startAt, stopAt, isWhole, isBad, headAt, andThen, afterHead, listStep, listAt, recordAt, layoutOf, LayoutOfList}
 use Rattle.node.specs.declared.layout.Layout.{Layout}
 use Rattle.node.proofs.layout.Layout.{the-type}
 use Rattle.node.specs.declared.layout.Layout.the-variants.{Good, TooLong, Fault, TooDeep}
 use Rattle.node.specs.declared.layout.Head.{Head}
 use Rattle.node.specs.declared.layout.Head.the-variants.{Body, Wrong}
+use Rattle.node.proofs.Cases.{one-less}
 
 -- The head of a record, by the tests of its code
 module _ (n : ℕ) (s : List ℕ) (at end : ℕ) (due : Due) where
@@ -118,9 +119,6 @@ known n s at end due start stop holds next e =
       after = z .3;
     }
 
-one-less : (n : ℕ) → 0 < n → n ≡ suc (n - 1)
-one-less n p = omega arith
-
 pub list-step : (f : ℕ → ℕ → Due → Layout) (s : List ℕ) (n at end : ℕ) (st : Holds) → 0 < n → listAt f s n at end st ≡ listStep f (λ a u. listAt f s (n - 1) a end u) s at end (dueIn st)
 unfolding listAt
 list-step f s n at end st p = ap (λ (m : ℕ). listAt f s m at end st) (one-less n p)
@@ -158,30 +156,30 @@ pub walk-start : (n : ℕ) (s : List ℕ) (d from end : ℕ) (st : Holds) → fr
 walk-start n s d from end st p = record { inside = p; rest = λ m q. record { left = m; enough = q; same = refl } }
 
 -- a list that is complete at its start
-walked-at-once : (n : ℕ) (s : List ℕ) (d from end : ℕ) (st : Holds) (due : Due) → due ≡ dueIn st → (b : Bool) → b ≡ isDone due from end → b ≡ true → Walked n s d from end st Good
+walked-at-once : (n : ℕ) (s : List ℕ) (d from end : ℕ) (st : Holds) (due : Due) → due ≡ dueIn st → (b : Bool) → b ≡ isDone due from end → b ≡ true → LayoutOfList n s d from end st Good
 walked-at-once n s d from end st due ed b eb p = record { is = λ m q. simp (list-step (recordAt n s d) s m from end st (omega arith), ← ed, ← eb, p) }
 
 module _ (n : ℕ) (s : List ℕ) (d from end : ℕ) (st₀ : Holds) (at : ℕ) (st : Holds) (w : Walking n s d from end st₀ at st) where
-  walk-exit : (r : Layout) → ((m : ℕ) → end - at < m → r ≡ listAt (recordAt n s d) s m at end st) → Walked n s d from end st₀ r
+  walk-exit : (r : Layout) → ((m : ℕ) → end - at < m → r ≡ listAt (recordAt n s d) s m at end st) → LayoutOfList n s d from end st₀ r
   walk-exit r f = record { is = λ m q. f (w .rest m q .left) (w .rest m q .enough) ∙ sym (w .rest m q .same) }
 
   module _ (due : Due) (ed : due ≡ dueIn st) (b : Bool) (eb : b ≡ isDone due at end) where
-    pub walk-done : b ≡ true → Walked n s d from end st₀ Good
+    pub walk-done : b ≡ true → LayoutOfList n s d from end st₀ Good
     walk-done p = walk-exit Good (λ m q. simp (list-step (recordAt n s d) s m at end st (omega arith), ← ed, ← eb, p))
 
     module _ (p : b ≡ false) where
-      pub walk-left : due .class ≡ 0 → Walked n s d from end st₀ (Fault at)
+      pub walk-left : due .class ≡ 0 → LayoutOfList n s d from end st₀ (Fault at)
       walk-left z = walk-exit (Fault at) (λ m q. simp (list-step (recordAt n s d) s m at end st (omega arith), ← ed, ← eb, p, eq-eqb _ _ z))
 
       module _ (z : due .class ≡ 0 → ⊥) where
-        pub walk-deep : d < 1 → Walked n s d from end st₀ (TooDeep at)
+        pub walk-deep : d < 1 → LayoutOfList n s d from end st₀ (TooDeep at)
         walk-deep k = walk-exit (TooDeep at) (λ m q. simp (list-step (recordAt n s d) s m at end st (omega arith), ← ed, ← eb, p, ne-eqb _ _ z, record-deep n s d at end due k))
 
         module _ (k : 1 ≤ d) (h : Head) (eh : h ≡ headAt n s at end due) where
-          pub walk-wrong : (x : ℕ) → h ≡ Wrong x → Walked n s d from end st₀ (Fault x)
+          pub walk-wrong : (x : ℕ) → h ≡ Wrong x → LayoutOfList n s d from end st₀ (Fault x)
           walk-wrong x e = walk-exit (Fault x) (λ m q. simp (list-step (recordAt n s d) s m at end st (omega arith), ← ed, ← eb, p, ne-eqb _ _ z, record-step n s d at end due k, ← eh, e))
 
-          module _ (start stop : ℕ) (hs nx : Holds) (e : h ≡ Body start stop hs nx) (r : Layout) (er : Walked n s (d - 1) start stop hs r) (le : end ≤ length s) where
+          module _ (start stop : ℕ) (hs nx : Holds) (e : h ≡ Body start stop hs nx) (r : Layout) (er : LayoutOfList n s (d - 1) start stop hs r) (le : end ≤ length s) where
             in-body : Known n s at end due start stop hs nx
             in-body = known n s at end due start stop hs nx (sym eh ∙ e)
 
@@ -191,7 +189,7 @@ module _ (n : ℕ) (s : List ℕ) (d from end : ℕ) (st₀ : Holds) (at : ℕ) 
                 let a = w .inside in
                 record-step n s d at end due k ∙ simp (← eh, e) (sym (er .is (suc (length s)) (omega arith)))
 
-            pub walk-inner : ((f : Unit {0} → Layout) → r ≡ andThen r f) → Walked n s d from end st₀ r
+            pub walk-inner : ((f : Unit {0} → Layout) → r ≡ andThen r f) → LayoutOfList n s d from end st₀ r
             walk-inner g =
                 walk-exit r (λ m q. g (λ _. listAt (recordAt n s d) s (m - 1) (stopAt s at) end (stateAfter due (shapeAt s at .class)))
                 ∙ simp (list-step (recordAt n s d) s m at end st (omega arith), ← ed, ← eb, p, ne-eqb _ _ z, in-record))
@@ -223,6 +221,6 @@ module _ (s : List ℕ) where
   unfolding layoutOf
   layout-long p = simp (lt-ltb _ _ p)
 
-  pub layout-walked : (n : ℕ) (r : Layout) → length s ≤ maxBytes → n ≡ nameCount s → Walked n s maxDepth 0 (length s) OneModule r → r ≡ layoutOf s
+  pub layout-walked : (n : ℕ) (r : Layout) → length s ≤ maxBytes → n ≡ nameCount s → LayoutOfList n s maxDepth 0 (length s) OneModule r → r ≡ layoutOf s
   unfolding layoutOf
   layout-walked n r p e w = simp (le-ltb _ _ p, ← e) (w .is (suc (length s)) (omega arith))

@@ -13,20 +13,21 @@ use Rattle.shape.specs.declared.Rule.{Rule}
 use Rattle.shape.specs.declared.Rule.the-variants.{Slot, Name, Base, Operator, Comparison}
 use Rattle.shape.specs.declared.Holds.{Holds}
 use Rattle.shape.specs.declared.Holds.the-variants.{Nothing, OneModule, NamesThenItems, Items}
-use Rattle.shape.specs.declared.Shape.{Shape}
 use Rattle.shape.specs.declared.Due.{Due}
 use Rattle.shape.proofs.ShapeLaws.{and-both, module-kind}
 use Rattle.node.specs.Bytes.{halfAt, wordAt}
 use Rattle.node.specs.Names.{nameCount, namesEnd, itemPlaces, chain, stands}
 use Rattle.node.specs.Layout.{maxBytes, maxDepth, kindAt, shapeAt, classAt, startAt, stopAt, isBad, headAt, answerIf, andThen, afterHead, listAt, recordAt, layoutOf}
-use Rattle.node.specs.Fine.{FineRecord, FineList, Opened}
+use Rattle.node.specs.Fine.{FineRecord, FineList, Opened, FineNode, Enters, nodeOf}
+use Rattle.node.specs.declared.fine.Node.{Node}
+use Rattle.node.specs.declared.fine.Entered.{Entered}
 use Rattle.node.specs.declared.layout.Layout.{Layout}
 use Rattle.node.specs.declared.layout.Layout.the-variants.{Good, TooLong, Fault, TooDeep}
 use Rattle.node.specs.declared.layout.Head.{Head}
 use Rattle.node.specs.declared.layout.Head.the-variants.{Body, Wrong}
 use Rattle.node.proofs.LayoutLaws.{known, head-good, record-step}
 
-fault-good : {A : Type 0} {p : ℕ} → Fault p ≡ Good → A
+pub fault-good : {A : Type 0} {p : ℕ} → Fault p ≡ Good → A
 fault-good e = absurd (let z : _≡_ {A = ℕ} 0 1 = cc in omega arith)
 
 deep-good : {A : Type 0} {p : ℕ} → TooDeep p ≡ Good → A
@@ -35,7 +36,7 @@ deep-good e = absurd (let z : _≡_ {A = ℕ} 0 1 = cc in omega arith)
 long-good : {A : Type 0} → TooLong ≡ Good → A
 long-good e = absurd (let z : _≡_ {A = ℕ} 0 1 = cc in omega arith)
 
-and-then-good : (l : Layout) (f : Unit {0} → Layout) → andThen l f ≡ Good → (l ≡ Good) × (f tt ≡ Good)
+pub and-then-good : (l : Layout) (f : Unit {0} → Layout) → andThen l f ≡ Good → (l ≡ Good) × (f tt ≡ Good)
 and-then-good Good f e = (refl, e)
 and-then-good TooLong f e = long-good e
 and-then-good (Fault p) f e = fault-good e
@@ -138,6 +139,15 @@ pub entered : (s : List ℕ) (d at end c k len n : ℕ) → FineRecord s d at en
     → Opened s d at end c k (at + 16 + 4 * n) (at + len)
 entered s d at end c k len n f ek en el =
     opened-at s d at end c k (at + 16 + 4 * n) (at + len) f ek (ap (λ (x : ℕ). at + 16 + 4 * x) (en ∙ ap (λ (j : ℕ). shapeOf j .fields) ek)) (ap (λ (x : ℕ). at + x) el)
+
+-- what `enter` answers
+pub enters : (s : List ℕ) (node : Node) (c : ℕ) {k len n : ℕ} → FineNode s node c → k ≡ halfAt s (node .at + 4) → n ≡ shapeOf k .fields → len ≡ wordAt s (node .at)
+    → Enters s node c (record { at = node .at; depth = node .depth; kind = k; start = node .at + 16 + 4 * n; stop = node .at + len })
+enters s node c f ek en el = record { place = refl; levels = refl; opened = entered s (node .depth) (node .at) (length s) c _ _ _ f ek en el }
+
+-- the node that was entered
+pub same-node : {s : List ℕ} {node : Node} {c : ℕ} {head : Entered} → Enters s node c head → nodeOf head ≡ node
+same-node e i = record { at = e .place i; depth = e .levels i }
 
 -- a field that is not bad has a value that its rule allows
 pub good-field : (n : ℕ) (s : List ℕ) (nth fields : ℕ) (rule : Rule) (at : ℕ) → isBad n s nth fields rule at ≡ false → nth ≤ fields → allowed n rule (wordAt s at) ≡ true

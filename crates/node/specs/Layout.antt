@@ -12,7 +12,7 @@ use Rattle.shape.specs.declared.Holds.{Holds}
 use Rattle.shape.specs.declared.Holds.the-variants.{OneModule}
 use Rattle.shape.specs.declared.Shape.{Shape}
 use Rattle.shape.specs.declared.Due.{Due}
-use Rattle.node.specs.Bytes.{halfAt, wordAt}
+use Rattle.node.specs.Bytes.{halfAt, wordAt, headSize, fieldSize, headEnd, fieldEnd}
 use Rattle.node.specs.Names.{nameCount}
 use Rattle.node.specs.declared.layout.Layout.{Layout}
 use Rattle.node.specs.declared.layout.Layout.the-variants.{Good, TooLong, Fault, TooDeep}
@@ -38,14 +38,14 @@ classAt s at = shapeAt s at .class
 
 -- where its children start, and where it stops
 abbrev pub startAt : List ℕ → (at : ℕ) → ℕ
-startAt s at = at + 16 + 4 * shapeAt s at .fields
+startAt s at = headEnd at + fieldSize * shapeAt s at .fields
 
 abbrev pub stopAt : List ℕ → (at : ℕ) → ℕ
 stopAt s at = at + wordAt s at
 
 -- a record at `at` is neither missing nor too short or long, in a list that ends at `end`
 abbrev pub isWhole : List ℕ → (at end : ℕ) → Bool
-isWhole s at end = leb 16 (end - at) && (leb (wordAt s at) (end - at) && leb (16 + 4 * shapeAt s at .fields) (wordAt s at))
+isWhole s at end = leb headSize (end - at) && (leb (wordAt s at) (end - at) && leb (headSize + fieldSize * shapeAt s at .fields) (wordAt s at))
 
 -- the field at `at`, if a record with so many fields has so many, has a value that its rule does not allow
 unfoldable pub isBad : (names : ℕ) → List ℕ → (nth fields : ℕ) → Rule → (at : ℕ) → Bool
@@ -55,8 +55,8 @@ isBad n s nth fields rule at = leb nth fields && not (allowed n rule (wordAt s a
 unfoldable pub headAt : (names : ℕ) → List ℕ → (at end : ℕ) → Due → Head
 headAt n s at end due =
     pick (isWhole s at end && mayStand due (shapeAt s at .class))
-    (pick (isBad n s 1 (shapeAt s at .fields) (shapeAt s at .first) (at + 16)) (Wrong (at + 16))
-    (pick (isBad n s 2 (shapeAt s at .fields) (shapeAt s at .second) (at + 20)) (Wrong (at + 20))
+    (pick (isBad n s 1 (shapeAt s at .fields) (shapeAt s at .first) (headEnd at)) (Wrong (headEnd at))
+    (pick (isBad n s 2 (shapeAt s at .fields) (shapeAt s at .second) (fieldEnd at)) (Wrong (fieldEnd at))
     (Body (startAt s at) (stopAt s at) (shapeAt s at .holds) (stateAfter due (shapeAt s at .class)))))
     (Wrong at)
 
@@ -111,5 +111,5 @@ pub record Part (s : List ℕ) (at end : ℕ) : Type 0 where
   pub few : length s ≤ maxBytes
 
 -- `r` is the layout of a child list, whatever bounds the number of its records
-pub record Walked (names : ℕ) (s : List ℕ) (depth from end : ℕ) (state : Holds) (r : Layout) : Type 0 where
+pub record LayoutOfList (names : ℕ) (s : List ℕ) (depth from end : ℕ) (state : Holds) (r : Layout) : Type 0 where
   pub is : (n : ℕ) → end - from < n → r ≡ listAt (recordAt names s depth) s n from end state

@@ -1,4 +1,8 @@
 // The walk over a module's layout: refusals 1 to 3.
+use crate::bytes::FIELD;
+use crate::bytes::FIELD_END;
+use crate::bytes::HEAD_END;
+use crate::bytes::KIND;
 use crate::bytes::half;
 use crate::bytes::length_at;
 use crate::bytes::word;
@@ -14,10 +18,10 @@ use shape::may_stand;
 use shape::shape_of;
 use shape::state_after;
 ghost use mathlib.Core.Path.{_≡_};
-ghost use mathlib.Core.Bool.{true};
 ghost use Prim.Native.Nat.{_+_, _≤_};
 ghost use lib.ListN.{length};
-ghost use Rattle.node.specs.Layout.{Part, isBad, headAt, Walked, layoutOf};
+ghost use Rattle.contract.specs.Moments.{old};
+ghost use Rattle.node.specs.Layout.{Part, isBad, headAt, LayoutOfList, layoutOf};
 
 // The most bytes of a module, and the most levels of records, the module being the first.
 pub const MAX_BYTES: usize = 65536;
@@ -31,16 +35,18 @@ pub enum Layout {
     TooDeep(usize),
 }
 
-// The head of a record: where its children start and stop, their state, and the state of the list after the record; or the place of a fault.
+// The head of a record: where its children start and stop, their state, and the state of the list after the record; or
+// the place of a fault.
 pub enum Head {
     Body(usize, usize, Holds, Holds),
     Wrong(usize),
 }
 
-// Whether the field at `at`, the nth of a record with so many fields, if it has so many, has a value that its rule does not allow.
+// Whether the field at `at`, the nth of a record with so many fields, if it has so many, has a value that its rule
+// does not allow.
 fn is_bad(s: &[u8], names: u32, nth: usize, fields: usize, rule: Rule, at: usize) -> bool
     requires { ⌜ (nth ≤ fields → at + 4 ≤ length (now s)) ⌝ }
-    ensures { λ r. ⌜ r ≡ isBad names (now (s .entry)) nth fields rule at ⌝ }
+    ensures { λ r. ⌜ r ≡ isBad names (old s) nth fields rule at ⌝ }
 {
     if fields < nth {
         return false;
@@ -51,19 +57,19 @@ fn is_bad(s: &[u8], names: u32, nth: usize, fields: usize, rule: Rule, at: usize
 // The head of the record that is due at `at`, in a list that ends at `end`.
 fn head_at(s: &[u8], names: u32, at: usize, end: usize, due: Due) -> Head
     requires { ⌜ Part (now s) at end ⌝ }
-    ensures { λ r. ⌜ r ≡ headAt names (now (s .entry)) at end due ⌝ }
+    ensures { λ r. ⌜ r ≡ headAt names (old s) at end due ⌝ }
 {
     let room = end - at;
-    if room < 16 {
+    if room < HEAD_END {
         return Head::Wrong(at);
     }
     let len = length_at(s, at);
     if room < len {
         return Head::Wrong(at);
     }
-    let shape = shape_of(half(s, at + 4));
+    let shape = shape_of(half(s, at + KIND));
     let fields = shape.fields;
-    if len < 16 + 4 * fields {
+    if len < HEAD_END + FIELD * fields {
         return Head::Wrong(at);
     }
     let class = shape.class;
@@ -71,22 +77,22 @@ fn head_at(s: &[u8], names: u32, at: usize, end: usize, due: Due) -> Head
         return Head::Wrong(at);
     }
     let first = shape.first;
-    if is_bad(s, names, 1, fields, first, at + 16) {
-        return Head::Wrong(at + 16);
+    if is_bad(s, names, 1, fields, first, at + HEAD_END) {
+        return Head::Wrong(at + HEAD_END);
     }
     let second = shape.second;
-    if is_bad(s, names, 2, fields, second, at + 20) {
-        return Head::Wrong(at + 20);
+    if is_bad(s, names, 2, fields, second, at + FIELD_END) {
+        return Head::Wrong(at + FIELD_END);
     }
     let holds = shape.holds;
     let next = state_after(due, class);
-    Head::Body(at + 16 + 4 * fields, at + len, holds, next)
+    Head::Body(at + HEAD_END + FIELD * fields, at + len, holds, next)
 }
 
 // The layout of a child list, with so many levels left for its records.
 fn walk_list(s: &[u8], names: u32, from: usize, end: usize, depth: usize, holds: Holds) -> Layout
     requires { ⌜ Part (now s) from end ⌝ }
-    ensures { λ r. ⌜ Walked names (now (s .entry)) depth from end holds r ⌝ }
+    ensures { λ r. ⌜ LayoutOfList names (old s) depth from end holds r ⌝ }
 {
     let mut at = from;
     let mut state = holds;
@@ -126,7 +132,7 @@ fn walk_list(s: &[u8], names: u32, from: usize, end: usize, depth: usize, holds:
 
 // Refusals 1 to 3, in the order in which a walk in byte order meets them.
 pub fn check_layout(s: &[u8]) -> Layout
-    ensures { λ r. ⌜ r ≡ layoutOf (now (s .entry)) ⌝ }
+    ensures { λ r. ⌜ r ≡ layoutOf (old s) ⌝ }
 {
     let n = s.len();
     if MAX_BYTES < n {

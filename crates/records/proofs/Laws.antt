@@ -8,6 +8,7 @@ use lib.ListN.{length, getD, set, take, drop, replicate, length-append, length-d
 use lib.Seq.{drop-length, getD-take}
 use Rattle.fallible.specs.Errors.{errorWidth, errorOf, errorWord, errorAt, errorsFrom}
 use Rattle.fallible.specs.declared.Error.{Error}
+use Rattle.fallible.proofs.Laws.{errorOf-same}
 use Rattle.records.specs.Records.{recordsFrom, zeroRecord}
 
 -- The words of an error, read one by one.
@@ -71,26 +72,12 @@ records-more words count records p =
     let e : 0 + count ≡ count = omega arith in
     ap (λ (k : ℕ). set (recordsFrom words count records) count (errorAt words k)) (sym e) ∙ next-record words 0 count records p
 
--- Errors are equal where their words are.
-same-error : (u v : ℕ → ℕ) → ((place : ℕ) → place < errorWidth → u place ≡ v place) → errorOf u ≡ errorOf v
-same-error u v same =
-    λ j.
-    record {
-      kind = same 0 (omega arith) j;
-      file = same 1 (omega arith) j;
-      line = same 2 (omega arith) j;
-      column = same 3 (omega arith) j;
-      first = same 4 (omega arith) j;
-      second = same 5 (omega arith) j;
-      third = same 6 (omega arith) j;
-    }
-
 -- Errors of words that are enough for them.
 pub errors-of-front : (words : List ℕ) (front number many : ℕ) → errorWidth * (number + many) ≤ front → errorsFrom (take front words) number many ≡ errorsFrom words number many
 unfolding errorsFrom errorAt
 errors-of-front words front number zero p = refl
 errors-of-front words front number (suc many) p =
-    let here = same-error (errorWord (take front words) number) (errorWord words number) (λ k q. getD-take front words (errorWidth * number + k) 0 (omega arith)) in
+    let here = errorOf-same (errorWord (take front words) number) (errorWord words number) (λ k q. getD-take front words (errorWidth * number + k) 0 (omega arith)) in
     let rest = errors-of-front words front (number + 1) many (omega arith) in
     λ j. here j ∷ rest j
 
@@ -99,7 +86,7 @@ pub errors-of-zeros : (long number many : ℕ) → errorWidth * (number + many) 
 unfolding errorsFrom errorAt
 errors-of-zeros long number zero p = refl
 errors-of-zeros long number (suc many) p =
-    let here : errorOf (errorWord (replicate long 0) number) ≡ zeroRecord = same-error (errorWord (replicate long 0) number) (λ k. 0) (λ k q. getD-replicate long (errorWidth * number + k) 0 0 (omega arith)) in
+    let here : errorOf (errorWord (replicate long 0) number) ≡ zeroRecord = errorOf-same (errorWord (replicate long 0) number) (λ k. 0) (λ k q. getD-replicate long (errorWidth * number + k) 0 0 (omega arith)) in
     let rest = errors-of-zeros long (number + 1) many (omega arith) in
     λ j. here j ∷ rest j
 

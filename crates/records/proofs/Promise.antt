@@ -10,7 +10,7 @@ use lib.ListN.{length, take, drop, replicate, length-replicate}
 use lib.Seq.{length-take-le, take-at, drop-at}
 use borrow.Author.Tests.{lt-ltb, le-leb, lt-leb, leb-true, leb-false, ltb-false}
 use Rattle.types.specs.Table.{rowWidth}
-use Rattle.fallible.specs.Outcome.{Outcome, refused, accepted}
+use Rattle.fallible.specs.Outcome.{Outcome, refused, accepted, orNext, firstRefusing, outcomeAfter}
 use Rattle.fallible.specs.Errors.{errorWidth, errorsFrom}
 use Rattle.fallible.specs.declared.Error.{Error}
 use Rattle.node.specs.Layout.{layoutOf, layoutRefusal}
@@ -19,7 +19,7 @@ use Rattle.node.specs.declared.layout.Layout.{Layout}
 use Rattle.node.specs.declared.layout.Layout.the-variants.{Good, TooLong, Fault, TooDeep}
 use Rattle.node.specs.declared.names.Repeated.{Repeated}
 use Rattle.node.specs.declared.names.Repeated.the-variants.{Nowhere, At}
-use Rattle.meaning.specs.Promise.{Counts, Buffers, Lengths, lengthsOf, countsOf, workWidth, refuseIf, outcomeAfter, firstRefusal, answerOf, unfoldError, errorsOf, Checked}
+use Rattle.meaning.specs.Promise.{Counts, Buffers, Lengths, lengthsOf, countsOf, workWidth, refuseIf, answerOf, unfoldError, errorsOf, Checked}
 use Rattle.type_check.specs.declared.Answer.{Answer}
 use Rattle.type_check.specs.declared.Answer.the-variants.{Accepted, Refused}
 use Rattle.type_check.specs.Post.{buffers, outcomeOf, loanRefusal, Passed}
@@ -47,21 +47,24 @@ good-long input good once =
     lt-ltb 0 (length input) (omega arith)
 
 -- The tests past the names, where the first loan is too short or not.
-abbrev past-names : (input : List ℕ) → Bool → Outcome Counts
+abbrev past-names : (input : List ℕ) → Bool → Option (ℕ × ℕ)
 past-names input b =
-    firstRefusal
+    firstRefusing
     (refuseIf (b || ltb 0 (workWidth * length (namesOf input))) 5 ∷ refuseIf (ltb 0 (rowWidth * countsOf input .rows)) 6 ∷ refuseIf (ltb 0 (errorWidth * countsOf input .errors)) 7 ∷ [])
-    (accepted (countsOf input))
+
+-- The answer if these are all tests
+abbrev after-tests : (input : List ℕ) → Option (ℕ × ℕ) → Outcome Counts
+after-tests input t = outcomeAfter t (accepted (countsOf input))
 
 nothing-lent : (input : List ℕ) → Low (answerOf input noLoan)
 unfolding answerOf layoutRefusal nameRefusal
 nothing-lent input = by-layout (layoutOf input) refl
   where
-    by-name : layoutOf input ≡ Good → (r : Repeated) → repeatedName input ≡ r → Low (outcomeAfter (nameRefusal r) (past-names input (ltb 0 (length input))))
-    by-name good Nowhere once = subst (λ (b : Bool). Low (past-names input b)) (sym (good-long input good once)) (omega arith)
+    by-name : layoutOf input ≡ Good → (r : Repeated) → repeatedName input ≡ r → Low (after-tests input (orNext (nameRefusal r) (past-names input (ltb 0 (length input)))))
+    by-name good Nowhere once = subst (λ (b : Bool). Low (after-tests input (past-names input b))) (sym (good-long input good once)) (omega arith)
     by-name good (At p) once = omega arith
 
-    by-layout : (l : Layout) → layoutOf input ≡ l → Low (outcomeAfter (layoutRefusal l) (outcomeAfter (nameRefusal (repeatedName input)) (past-names input (ltb 0 (length input)))))
+    by-layout : (l : Layout) → layoutOf input ≡ l → Low (after-tests input (orNext (layoutRefusal l) (orNext (nameRefusal (repeatedName input)) (past-names input (ltb 0 (length input))))))
     by-layout Good e = by-name e (repeatedName input) refl
     by-layout TooLong e = omega arith
     by-layout (Fault p) e = omega arith
@@ -102,11 +105,11 @@ words-checked {input} {output} {rows} {work} {output′} {rows′} {part} {work�
     }
 
 -- ---- accepted: no test refused
-accepted-rest : (t : Option (ℕ × ℕ)) (other : Outcome Counts) (counts : Counts) → accepted counts ≡ outcomeAfter t other → accepted counts ≡ other
-accepted-rest none other counts e = e
-accepted-rest (some r) other counts e = absurd (refused-never (sym e))
+accepted-rest : (t u : Option (ℕ × ℕ)) (counts all : Counts) → accepted counts ≡ outcomeAfter (orNext t u) (accepted all) → accepted counts ≡ outcomeAfter u (accepted all)
+accepted-rest none u counts all e = e
+accepted-rest (some r) u counts all e = absurd (refused-never (sym e))
 
-accepted-last : (b : Bool) (counts all : Counts) → accepted counts ≡ outcomeAfter (refuseIf b 7) (accepted all) → (b ≡ false) × (counts ≡ all)
+accepted-last : (b : Bool) (counts all : Counts) → accepted counts ≡ outcomeAfter (firstRefusing (refuseIf b 7 ∷ [])) (accepted all) → (b ≡ false) × (counts ≡ all)
 accepted-last true counts all e = absurd (refused-never (sym e))
 accepted-last false counts all e = (refl, accepted-counts e)
 
@@ -118,11 +121,11 @@ accepted-room input lent counts e =
     let loan = loanRefusal input (lent .output) (lent .work) in
     let name = nameRefusal (repeatedName input) in
     let layout = layoutRefusal (layoutOf input) in
-    let other = accepted (countsOf input) in
-    let e₁ = accepted-rest layout (firstRefusal (name ∷ loan ∷ rows ∷ full ∷ []) other) counts e in
-    let e₂ = accepted-rest name (firstRefusal (loan ∷ rows ∷ full ∷ []) other) counts e₁ in
-    let e₃ = accepted-rest loan (firstRefusal (rows ∷ full ∷ []) other) counts e₂ in
-    let e₄ = accepted-rest rows (firstRefusal (full ∷ []) other) counts e₃ in
+    let all = countsOf input in
+    let e₁ = accepted-rest layout (firstRefusing (name ∷ loan ∷ rows ∷ full ∷ [])) counts all e in
+    let e₂ = accepted-rest name (firstRefusing (loan ∷ rows ∷ full ∷ [])) counts all e₁ in
+    let e₃ = accepted-rest loan (firstRefusing (rows ∷ full ∷ [])) counts all e₂ in
+    let e₄ = accepted-rest rows (firstRefusing (full ∷ [])) counts all e₃ in
     let both = accepted-last (ltb (lent .errors) (errorWidth * countsOf input .errors)) counts (countsOf input) e₄ in
     let same : counts .errors ≡ countsOf input .errors = ap (λ (c : Counts). c .errors) (both .1) in
     let p = ltb-false (lent .errors) (errorWidth * countsOf input .errors) (both .0) in

@@ -1,21 +1,21 @@
-// The errors as records with named fields: `type_check_module`, and a list of records filled from the words of its errors.
+// The errors as records with named fields: `type_check_module`, and a list of records filled from the words of its
+// errors.
+use fallible::ERROR_WIDTH;
 use fallible::Error;
 use type_check::Answer;
 use type_check::type_check_module;
 ghost use mathlib.Core.Path.{_≡_};
 ghost use Prim.Native.Nat.{_+_, _*_, _≤_};
 ghost use lib.ListN.{length, replicate};
+ghost use Rattle.contract.specs.Moments.{old, final};
 ghost use Rattle.fallible.specs.Errors.{errorWidth, errorAt};
-ghost use Rattle.type_check.specs.Post.{buffers, outcomeOf};
+ghost use Rattle.type_check.specs.Post.{buffersBefore, buffersAfter, outcomeOf};
 ghost use Rattle.records.specs.Records.{recordsFrom, recordCount, zeroRecord, CheckedWords, CheckedRecords};
-
-// Words of an error.
-const ERROR_WIDTH: usize = 7;
 
 // The error at a number, from 0, by its words.
 fn error_at(words: &[u32], number: usize) -> Error
     requires { ⌜ errorWidth * (number + 1) ≤ length (now words) ⌝ }
-    ensures { λ r. ⌜ r ≡ errorAt (now (words .entry)) number ⌝ }
+    ensures { λ r. ⌜ r ≡ errorAt (old words) number ⌝ }
 {
     let at = ERROR_WIDTH * number;
     Error {
@@ -32,7 +32,7 @@ fn error_at(words: &[u32], number: usize) -> Error
 // Fills the first `count` records from their words.
 fn fill_records(records: &mut [Error], words: &[u32], count: usize)
     requires { ⌜ (count ≤ length (now records)) × (errorWidth * count ≤ length (now words)) ⌝ }
-    ensures { λ _. ⌜ now (records .exit) ≡ recordsFrom (now (words .entry)) count (now (records .entry)) ⌝ }
+    ensures { λ _. ⌜ final records ≡ recordsFrom (old words) count (old records) ⌝ }
 {
     let mut i: usize = 0;
     while i < count {
@@ -41,7 +41,8 @@ fn fill_records(records: &mut [Error], words: &[u32], count: usize)
     }
 }
 
-// `type_check_module` with seven words for each of so many records, and no more. Fewer words are as good as nothing lent, which is refused.
+// `type_check_module` with seven words for each of so many records, and no more. Fewer words are as good as nothing
+// lent, which is refused.
 fn check_words(
     input: &[u8],
     output: &mut [u8],
@@ -50,7 +51,9 @@ fn check_words(
     records: usize,
     work: &mut [u32],
 ) -> Answer
-    ensures { λ r. ⌜ CheckedWords (now (input .entry)) records (buffers (now (output .entry)) (now (rows .entry)) (now (words .entry)) (now (work .entry))) (buffers (now (output .exit)) (now (rows .exit)) (now (words .exit)) (now (work .exit))) (outcomeOf r) ⌝ }
+    ensures { λ r. ⌜ CheckedWords (old input) records
+        (buffersBefore output rows words work)
+        (buffersAfter output rows words work) (outcomeOf r) ⌝ }
 {
     if words.len() / ERROR_WIDTH < records {
         return type_check_module(
@@ -84,7 +87,9 @@ pub fn type_check_module_records(
     records: &mut [Error],
     work: &mut [u32],
 ) -> Answer
-    ensures { λ r. ⌜ CheckedRecords (now (input .entry)) (buffers (now (output .entry)) (now (rows .entry)) (now (words .entry)) (now (work .entry))) (buffers (now (output .exit)) (now (rows .exit)) (now (words .exit)) (now (work .exit))) (now (records .entry)) (now (records .exit)) (outcomeOf r) ⌝ }
+    ensures { λ r. ⌜ CheckedRecords (old input)
+        (buffersBefore output rows words work)
+        (buffersAfter output rows words work) (old records) (final records) (outcomeOf r) ⌝ }
 {
     let answer = check_words(input, output, rows, words, records.len(), work);
     let count = record_count(answer, records.len());
@@ -121,7 +126,10 @@ pub fn report_module(
     words: &mut [u32],
     work: &mut [u32],
 ) -> Report
-    ensures { λ r. ⌜ CheckedRecords (now (input .entry)) (buffers (now (output .entry)) (now (rows .entry)) (now (words .entry)) (now (work .entry))) (buffers (now (output .exit)) (now (rows .exit)) (now (words .exit)) (now (work .exit))) (replicate 2000 zeroRecord) (r .errors) (outcomeOf (r .answer)) ⌝ }
+    ensures { λ r. ⌜ CheckedRecords (old input)
+        (buffersBefore output rows words work)
+        (buffersAfter output rows words work)
+        (replicate 2000 zeroRecord) (r .errors) (outcomeOf (r .answer)) ⌝ }
 {
     let mut errors = zero_records();
     let answer = type_check_module_records(input, output, rows, words, &mut errors, work);

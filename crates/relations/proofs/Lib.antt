@@ -1,4 +1,3 @@
-pub mod Bench
 pub mod AssignLaws
 pub mod CastLaws
 pub mod WordLaws

@@ -16,7 +16,7 @@ use Rattle.types.specs.Post.{TypePart, CellPart}
 use Rattle.types.proofs.Laws.{unfolded-zero, row-ok}
 use Rattle.types.proofs.Query.{kind-of, type-kind, cell-kind}
 use Rattle.relations.specs.WordSize.{IrType, array, struct, function, more, join, irTypeOf, toIrType, irWordSize, answered, wordSizeOf, asWord, argumentWord, workingWord, Hold, largest, tooLargeWord, unknownWord}
-use Rattle.relations.specs.Inner.{Due, wordAt, known, arrayWord, fieldWord}
+use Rattle.relations.specs.Inner.{Due, workingWordAt, known, arrayWord, fieldWord}
 use Rattle.relations.specs.declared.WordSize.{WordSize}
 use Rattle.relations.specs.declared.WordSize.the-variants.{Words, TooLarge, Unknown}
 
@@ -130,12 +130,12 @@ word-kind : (t : Ty) (k : ℕ) → kindOf t ≡ suc k → (suc k ≡ argumentKin
 word-kind t k e other o p = word-counted t (λ z. other (sym e ∙ z)) ∙ ap irWord (type-at t k e ∙ p)
 
 -- The word of a part in the list
-held-word : (w : List ℕ) (m : ℕ) (work : List ℕ) → Hold w m work → (n : ℕ) → n ≤ m → wordAt work n ≡ workingWord (unfolded w n)
+held-word : (w : List ℕ) (m : ℕ) (work : List ℕ) → Hold w m work → (n : ℕ) → n ≤ m → workingWordAt work n ≡ workingWord (unfolded w n)
 unfolding workingWord
 held-word w m work held zero low = sym (ap workingWord (unfolded-zero w))
 held-word w m work held (suc n) low = held n (omega arith) ∙ ap (λ (i : ℕ). workingWord (unfolded w i)) (add-one n)
 
-module _ (w : List ℕ) (count n : ℕ) (work : List ℕ) (due : Due w count n work) (p x : ℕ) (x-is : x ≡ wordAt work p) where
+module _ (w : List ℕ) (count n : ℕ) (work : List ℕ) (due : Due w count n work) (p x : ℕ) (x-is : x ≡ workingWordAt work p) where
   type-word : (t : Ty) → TypePart w count n t p → x ≡ workingWord t
   type-word t part = x-is ∙ held-word w (n - 1) work (due .held) p (omega (arith, part .lower)) ∙ ap workingWord (part .type)
 
@@ -179,7 +179,7 @@ module _ (w : List ℕ) (count n : ℕ) (work : List ℕ) (due : Due w count n w
       cases (suc (suc (suc zero))) b e = word-kind (unfolded w n) 5 e (λ z. omega arith) _ refl
       cases (suc (suc (suc (suc i)))) b e = absurd (omega arith)
 
-  module _ (p x : ℕ) (x-is : x ≡ wordAt work p) where
+  module _ (p x : ℕ) (x-is : x ≡ workingWordAt work p) where
     pub row-struct : k ≡ structKind → CellPart w count n fieldKind (firstOf (unfolded w n)) p → x ≡ workingWord (unfolded w n)
     row-struct e part =
         cell-word w count n work due p x x-is fieldKind _ part
@@ -207,7 +207,7 @@ module _ (w : List ℕ) (count n : ℕ) (work : List ℕ) (due : Due w count n w
       x-tells : Tells x (toIrType (firstOf (unfolded w n)))
       x-tells = rw x-word (word-tells (firstOf (unfolded w n)))
 
-      module _ (q y : ℕ) (y-is : y ≡ wordAt work q) (r : ℕ) where
+      module _ (q y : ℕ) (y-is : y ≡ workingWordAt work q) (r : ℕ) where
         y-tells : (j : ℕ) → CellPart w count n j (secondOf (unfolded w n)) q → Tells y (toIrType (secondOf (unfolded w n)))
         y-tells j rest = rw (cell-word w count n work due q y y-is j _ rest) (word-tells (secondOf (unfolded w n)))
 
@@ -252,7 +252,7 @@ from-irWord (some t) = elim (decLe (irWordSize t) largest) [ yes h ↦ low h | n
     high : largest < irWordSize t → fromWord (irWord (some t)) ≡ answered (some t)
     high h = rw (lt-leb (irWordSize t) largest h)
 
-module _ (w : List ℕ) (count : ℕ) (table : Table w count) (n : ℕ) (is : IsType w count n) (work : List ℕ) (held : Hold w count work) (x : ℕ) (x-is : x ≡ wordAt work n) where
+module _ (w : List ℕ) (count : ℕ) (table : Table w count) (n : ℕ) (is : IsType w count n) (work : List ℕ) (held : Hold w count work) (x : ℕ) (x-is : x ≡ workingWordAt work n) where
   from-word : fromWord x ≡ wordSizeOf (unfolded w n)
   unfolding wordSizeOf
   from-word =

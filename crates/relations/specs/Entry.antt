@@ -15,9 +15,9 @@ use Rattle.relations.specs.declared.Measured.{Measured}
 use Rattle.relations.specs.declared.Measured.the-variants.{Size, ShortLoan, BadRows}
 
 -- The number of the refusal and its place, or the value, of each case of the answers
-abbrev pub outcomeOf : Answer → Outcome Bool
-outcomeOf (Is b) = accepted b
-outcomeOf Refused = refused 8 0
+abbrev pub answeredOf : Answer → Outcome Bool
+answeredOf (Is b) = accepted b
+answeredOf Refused = refused 8 0
 
 abbrev pub measuredOf : Measured → Outcome WordSize
 measuredOf (Size s) = accepted s
@@ -41,7 +41,7 @@ pub record OneType (w : List ℕ) (count n : ℕ) : Type 0 where
   pub type : IsType w count n
 
 -- The working words hold the words of each row; those past the rows are as they were
-pub record Filled (w : List ℕ) (count : ℕ) (work work′ : List ℕ) : Type 0 where
+pub record WorkFilled (w : List ℕ) (count : ℕ) (work work′ : List ℕ) : Type 0 where
   pub long : length work′ ≡ length work
   pub each : Hold w count work′
   pub past : (i : ℕ) → count ≤ i → getD work′ i 0 ≡ getD work i 0
@@ -49,7 +49,7 @@ pub record Filled (w : List ℕ) (count : ℕ) (work work′ : List ℕ) : Type 
 -- The size of row n, with the working words filled
 pub record Sized (w : List ℕ) (count n : ℕ) (work work′ : List ℕ) (answer : WordSize) : Type 0 where
   pub size : answer ≡ wordSizeOf (unfolded w n)
-  pub filled : Filled w count work work′
+  pub filled : WorkFilled w count work work′
 
 -- Refused with 5 at place 0 if there are fewer working words than rows; else with 8 at place 0 exactly if the number is no type row of
 -- rows that obey the rules. A refusal leaves the working words as they were

@@ -16,8 +16,8 @@ pub record Due (w : List ℕ) (count n : ℕ) (work : List ℕ) : Type 0 where
   pub held : Hold w (n - 1) work
 
 -- Row n's working word; the number 0 has 0
-abbrev pub wordAt : (work : List ℕ) (n : ℕ) → ℕ
-wordAt work n = getD (0 ∷ work) n 0
+abbrev pub workingWordAt : (work : List ℕ) (n : ℕ) → ℕ
+workingWordAt work n = getD (0 ∷ work) n 0
 
 -- Words counted no further than 65,536
 abbrev pub capped : (words : ℕ) → ℕ

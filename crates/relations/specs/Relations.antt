@@ -3,7 +3,8 @@ use Prim.Native.Nat.{ℕ}
 use mathlib.Core.Bool.{Bool, false, cond, _&&_, _||_}
 use mathlib.Core.List.{List, [], _∷_, _++_, map}
 use lib.Dec.{eqb}
-use Rattle.types.specs.Ty.{Ty, end, node, is, kindOf, firstOf, same, desugar, u16Kind, i16Kind, pointerKind, arrayKind, aliasKind, distinctKind}
+use Rattle.types.specs.Ty.{Ty, end, node, is, kindOf, firstOf, same, desugar, u16Kind, i16Kind, pointerKind, arrayKind}
+use Rattle.types.specs.Ty.{aliasKind, distinctKind}
 
 -- Assignable (target, source): after desugaring both, equal; or both pointers, the source's pointee an array directly, its element
 -- assignable to the target's pointee. The recursion goes down the target and strips its aliases on the way

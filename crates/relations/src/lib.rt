@@ -4,18 +4,22 @@ ghost use mathlib.Core.Path.{_≡_};
 ghost use mathlib.Core.List.{map};
 ghost use Prim.Native.Nat.{_≤_};
 ghost use lib.ListN.{length};
+ghost use Rattle.contract.specs.Moments.{old, final};
 ghost use Rattle.types.specs.Table.{Table, Decides, unfolded};
-ghost use Rattle.relations.specs.Relations.{typesAreAssignable, strips, pair, someFits, isIntegralKind, castKinds, castFits, isCastableTo};
+ghost use Rattle.relations.specs.Relations.{typesAreAssignable, strips, pair, someFits, isIntegralKind};
+ghost use Rattle.relations.specs.Relations.{castKinds, castFits, isCastableTo};
 ghost use Rattle.relations.specs.WordSize.{workingWord};
-ghost use Rattle.relations.specs.Inner.{Due, wordAt, capped, known, arrayWord, fieldWord};
-ghost use Rattle.relations.specs.Entry.{OneType, TwoTypes, Filled, Sized, Answers, Measures, outcomeOf, measuredOf};
+ghost use Rattle.relations.specs.Inner.{Due, workingWordAt, capped, known, arrayWord, fieldWord};
+ghost use Rattle.relations.specs.Entry.{OneType, TwoTypes, WorkFilled, Sized, Answers, Measures, answeredOf};
+ghost use Rattle.relations.specs.Entry.{measuredOf};
 
-// The largest number of words that is answered, and the working words of a type that has more, or Unknown inside.
+// The largest number of words that is answered, and what stands for the words of a type that has more, or Unknown
+// inside.
 const LARGEST: u32 = 65535;
 
-const TOO_LARGE_WORD: u32 = 65536;
+pub const TOO_LARGE_WORD: u32 = 65536;
 
-const UNKNOWN_WORD: u32 = 65537;
+pub const UNKNOWN_WORD: u32 = 65537;
 
 // How many words a type has.
 pub enum WordSize {
@@ -40,7 +44,7 @@ pub enum Measured {
 // Whether a value of the type source may be assigned to a place of the type target.
 pub fn types_are_assignable(rows: &[u32], count: u32, target: u32, source: u32) -> bool
     requires { ⌜ TwoTypes (now rows) count target source ⌝ }
-    ensures { λ r. ⌜ r ≡ typesAreAssignable (unfolded (now (rows .entry)) target) (unfolded (now (rows .entry)) source) ⌝ }
+    ensures { λ r. ⌜ r ≡ typesAreAssignable (unfolded (old rows) target) (unfolded (old rows) source) ⌝ }
 {
     let mut to = target;
     let mut from = source;
@@ -97,7 +101,7 @@ fn cast_kinds(source: u32, target: u32) -> bool
 // Whether a pair fits as it stands.
 fn cast_fits(rows: &[u32], count: u32, source: u32, target: u32) -> bool
     requires { ⌜ TwoTypes (now rows) count source target ⌝ }
-    ensures { λ r. ⌜ r ≡ castFits (pair (unfolded (now (rows .entry)) source) (unfolded (now (rows .entry)) target)) ⌝ }
+    ensures { λ r. ⌜ r ≡ castFits (pair (unfolded (old rows) source) (unfolded (old rows) target)) ⌝ }
 {
     if cast_kinds(
         types::kind(rows, count, source),
@@ -113,7 +117,7 @@ fn cast_fits(rows: &[u32], count: u32, source: u32, target: u32) -> bool
 // Whether source, as it stands, fits with some strip of target.
 fn target_strip_fits(rows: &[u32], count: u32, source: u32, target: u32) -> bool
     requires { ⌜ TwoTypes (now rows) count source target ⌝ }
-    ensures { λ r. ⌜ r ≡ someFits (map (pair (unfolded (now (rows .entry)) source)) (strips (unfolded (now (rows .entry)) target))) ⌝ }
+    ensures { λ r. ⌜ r ≡ someFits (map (pair (unfolded (old rows) source)) (strips (unfolded (old rows) target))) ⌝ }
 {
     let mut to = target;
     loop {
@@ -130,7 +134,7 @@ fn target_strip_fits(rows: &[u32], count: u32, source: u32, target: u32) -> bool
 // Whether a value of the type source may be cast to the type target.
 pub fn is_castable_to(rows: &[u32], count: u32, source: u32, target: u32) -> bool
     requires { ⌜ TwoTypes (now rows) count source target ⌝ }
-    ensures { λ r. ⌜ r ≡ isCastableTo (unfolded (now (rows .entry)) source) (unfolded (now (rows .entry)) target) ⌝ }
+    ensures { λ r. ⌜ r ≡ isCastableTo (unfolded (old rows) source) (unfolded (old rows) target) ⌝ }
 {
     let mut from = source;
     loop {
@@ -147,7 +151,7 @@ pub fn is_castable_to(rows: &[u32], count: u32, source: u32, target: u32) -> boo
 // The working word of row n, or 0 for the number 0.
 fn word_at(work: &[u32], n: u32) -> u32
     requires { ⌜ n ≤ length (now work) ⌝ }
-    ensures { λ r. ⌜ r ≡ wordAt (now (work .entry)) n ⌝ }
+    ensures { λ r. ⌜ r ≡ workingWordAt (old work) n ⌝ }
 {
     if n == 0 {
         return 0;
@@ -197,7 +201,7 @@ fn field_word(ty: u32, rest: u32) -> u32
 // The working word of row n, from those of the rows before it.
 fn row_word(rows: &[u32], count: u32, n: u32, work: &[u32]) -> u32
     requires { ⌜ Due (now rows) count n (now work) ⌝ }
-    ensures { λ r. ⌜ r ≡ workingWord (unfolded (now (rows .entry)) n) ⌝ }
+    ensures { λ r. ⌜ r ≡ workingWord (unfolded (old rows) n) ⌝ }
 {
     let kind = types::kind(rows, count, n);
     if kind < types::VOID {
@@ -236,7 +240,7 @@ fn row_word(rows: &[u32], count: u32, n: u32, work: &[u32]) -> u32
 // Fills one working word a row, in the order of the rows.
 fn fill_words(rows: &[u32], count: u32, work: &mut [u32])
     requires { ⌜ Table (now rows) count × (count ≤ length (now work)) ⌝ }
-    ensures { λ _. ⌜ Filled (now (rows .entry)) count (now (work .entry)) (now (work .exit)) ⌝ }
+    ensures { λ _. ⌜ WorkFilled (old rows) count (old work) (final work) ⌝ }
 {
     let mut i: u32 = 0;
     while i < count {
@@ -248,7 +252,7 @@ fn fill_words(rows: &[u32], count: u32, work: &mut [u32])
 // How many words the type of row n has.
 pub fn word_size(rows: &[u32], count: u32, n: u32, work: &mut [u32]) -> WordSize
     requires { ⌜ OneType (now rows) count n × (count ≤ length (now work)) ⌝ }
-    ensures { λ r. ⌜ Sized (now (rows .entry)) count n (now (work .entry)) (now (work .exit)) r ⌝ }
+    ensures { λ r. ⌜ Sized (old rows) count n (old work) (final work) r ⌝ }
 {
     fill_words(rows, count, work);
     let word = word_at(work, n);
@@ -263,27 +267,28 @@ pub fn word_size(rows: &[u32], count: u32, n: u32, work: &mut [u32]) -> WordSize
 
 // Whether the rows obey the rules, and n is a type row.
 fn one_type(rows: &[u32], count: u32, n: u32) -> bool
-    ensures { λ r. ⌜ Decides (OneType (now (rows .entry)) count n) r ⌝ }
+    ensures { λ r. ⌜ Decides (OneType (old rows) count n) r ⌝ }
 {
-    if !validate::is_table(rows, count) {
+    if !validate_rows::is_table(rows, count) {
         return false;
     }
-    validate::is_type(rows, count, n)
+    validate_rows::is_type(rows, count, n)
 }
 
 // Whether the rows obey the rules, and both m and n are type rows.
 fn two_types(rows: &[u32], count: u32, m: u32, n: u32) -> bool
-    ensures { λ r. ⌜ Decides (TwoTypes (now (rows .entry)) count m n) r ⌝ }
+    ensures { λ r. ⌜ Decides (TwoTypes (old rows) count m n) r ⌝ }
 {
     if !one_type(rows, count, m) {
         return false;
     }
-    validate::is_type(rows, count, n)
+    validate_rows::is_type(rows, count, n)
 }
 
 // Whether the type of row source may be assigned to that of row target.
 pub fn assignable(rows: &[u32], count: u32, target: u32, source: u32) -> Answer
-    ensures { λ r. ⌜ Answers (now (rows .entry)) count target source (typesAreAssignable (unfolded (now (rows .entry)) target) (unfolded (now (rows .entry)) source)) (outcomeOf r) ⌝ }
+    ensures { λ r. ⌜ Answers (old rows) count target source
+        (typesAreAssignable (unfolded (old rows) target) (unfolded (old rows) source)) (answeredOf r) ⌝ }
 {
     if !two_types(rows, count, target, source) {
         return Answer::Refused;
@@ -293,7 +298,8 @@ pub fn assignable(rows: &[u32], count: u32, target: u32, source: u32) -> Answer
 
 // Whether the type of row source may be cast to that of row target.
 pub fn castable(rows: &[u32], count: u32, source: u32, target: u32) -> Answer
-    ensures { λ r. ⌜ Answers (now (rows .entry)) count source target (isCastableTo (unfolded (now (rows .entry)) source) (unfolded (now (rows .entry)) target)) (outcomeOf r) ⌝ }
+    ensures { λ r. ⌜ Answers (old rows) count source target
+        (isCastableTo (unfolded (old rows) source) (unfolded (old rows) target)) (answeredOf r) ⌝ }
 {
     if !two_types(rows, count, source, target) {
         return Answer::Refused;
@@ -303,7 +309,7 @@ pub fn castable(rows: &[u32], count: u32, source: u32, target: u32) -> Answer
 
 // How many words the type of row n has. One working word a row is lent.
 pub fn words(rows: &[u32], count: u32, n: u32, work: &mut [u32]) -> Measured
-    ensures { λ r. ⌜ Measures (now (rows .entry)) count n (now (work .entry)) (now (work .exit)) (measuredOf r) ⌝ }
+    ensures { λ r. ⌜ Measures (old rows) count n (old work) (final work) (measuredOf r) ⌝ }
 {
     if work.len() < count as usize {
         return Measured::ShortLoan;

@@ -11,7 +11,7 @@ use borrow.Author.Tests.{eqb-true, eqb-false}
 use Rattle.shape.specs.Shape.{anItem, dueIn}
 use Rattle.shape.specs.declared.Holds.the-variants.{Items}
 use Rattle.node.specs.Bytes.{wordAt}
-use Rattle.node.specs.Names.{stands, chain, namesEnd, itemPlaces, itemBytes}
+use Rattle.node.specs.Names.{chain, namesEnd, itemPlaces, itemBytes}
 use Rattle.node.specs.Layout.{stopAt, layoutOf}
 use Rattle.node.specs.Fine.{FineRecord, FineList}
 use Rattle.node.specs.declared.layout.Layout.the-variants.{Good}

@@ -16,7 +16,7 @@ use Rattle.node.specs.Fine.{FineList}
 use Rattle.node.specs.declared.layout.Layout.the-variants.{Good}
 use Rattle.node.proofs.Open.{opened, split-may, fine-stands, module-parts, item-chain}
 use Rattle.node.proofs.NameLaws.{chain-none, chain-more}
-use Rattle.reorder.specs.Order.{Listed}
+use Rattle.reorder.specs.Order.{PlacesListed}
 
 -- The records before `at` are listed, those after it are left; each has at least 16 bytes
 pub record Listing (s words : List ℕ) (at count : ℕ) : Type 0 where
@@ -109,7 +109,7 @@ module _ (s : List ℕ) where
     pub listing-less : (w : ℕ) → at < length s → w ≡ wordAt s at → length s - (at + w) < length s - at
     listing-less w p q = let n = listing-next p in omega (arith, n .long)
 
-    pub listing-done : length s ≤ at → Listed s words count
+    pub listing-done : length s ≤ at → PlacesListed s words count
     listing-done p =
         let e = chain-none s (l .fuel) at (length s) (none-left s at (length s) p) in
         record { inside = l .inside; are = sym (append-nil (take count words)) ∙ sym (ap (λ (x : List ℕ). take count words ++ x) e) ∙ sym (l .are) }

@@ -9,6 +9,7 @@ use lib.Dec.{ltb}
 use lib.ListN.{length, take, drop, length-append}
 use lib.Seq.{length-take-le, take-at, drop-at, take-append-le}
 use borrow.Author.Tests.{lt-ltb, le-ltb}
+use Rattle.fallible.specs.Outcome.{orNext}
 use Rattle.node.specs.Names.{namesEnd, itemBytes}
 use Rattle.node.specs.Layout.{layoutOf, layoutRefusal}
 use Rattle.node.specs.declared.layout.Layout.{Layout}
@@ -17,13 +18,13 @@ use Rattle.node.proofs.Open.{names-end}
 use Rattle.meaning.specs.Promise.{refuseIf}
 use Rattle.meaning.specs.JoiningOrder.{AnotherOrder}
 use Rattle.meaning.proofs.Permutation.{length-permuted}
-use Rattle.reorder.specs.Order.{joined, arranged, Listed, Places, orNext, refusal, Reordered}
+use Rattle.reorder.specs.Order.{joined, arranged, PlacesListed, Places, refusal, Reordered}
 use Rattle.reorder.proofs.Listing.{names-room}
 use Rattle.reorder.proofs.NewOrder.{arranged-is, new-length, new-order}
 use Rattle.reorder.proofs.NewLayout.{new-layout}
 
 -- The places in another order, before the words past them
-module _ (s words : List ℕ) (count : ℕ) (l : Listed s words count) where
+module _ (s words : List ℕ) (count : ℕ) (l : PlacesListed s words count) where
   pub listed-count : count ≡ length (take count words)
   listed-count = sym (length-take-le count words (l .inside))
 
@@ -63,7 +64,7 @@ reordered s places before after p h e =
       past = ap (drop (length s)) e ∙ drop-at m (drop (length s) before) (length s) long;
     }
 
-pub written : (s words places before after : List ℕ) (count : ℕ) → layoutOf s ≡ Good → Listed s words count → List·Permᴰ (take count words) places → length s ≤ length before
+pub written : (s words places before after : List ℕ) (count : ℕ) → layoutOf s ≡ Good → PlacesListed s words count → List·Permᴰ (take count words) places → length s ≤ length before
     → after ≡ arranged s (take count (places ++ drop count words)) ++ drop (length s) before → Reordered s before after
 written s words places before after count good l o h e =
     reordered s (take count (places ++ drop count words)) before after (permuted-places s words count l places o good) h e

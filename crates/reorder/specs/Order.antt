@@ -5,6 +5,7 @@ use mathlib.Core.List.{List, [], _∷_, _++_, map, List·Permᴰ}
 use mathlib.Core.Option.{Option, none, some}
 use lib.Dec.{ltb}
 use lib.ListN.{length, getD, set, take, drop}
+use Rattle.fallible.specs.Outcome.{orNext}
 use Rattle.node.specs.Names.{namesEnd, itemPlaces, itemBytes}
 use Rattle.node.specs.Layout.{layoutOf, layoutRefusal}
 use Rattle.node.specs.declared.layout.Layout.the-variants.{Good}
@@ -27,7 +28,7 @@ abbrev pub exchanged : List ℕ → (i j : ℕ) → List ℕ
 exchanged l i j = set (set l i (getD l j 0)) j (getD l i 0)
 
 -- The first `count` words are the places of the items
-pub record Listed (s words : List ℕ) (count : ℕ) : Type 0 where
+pub record PlacesListed (s words : List ℕ) (count : ℕ) : Type 0 where
   pub inside : count ≤ length words
   pub are : take count words ≡ itemPlaces s
 
@@ -35,11 +36,6 @@ pub record Listed (s words : List ℕ) (count : ℕ) : Type 0 where
 pub record Places (s places : List ℕ) : Type 0 where
   pub layout : layoutOf s ≡ Good
   pub permuted : List·Permᴰ (itemPlaces s) places
-
--- The first test that refuses decides
-abbrev pub orNext : Option (ℕ × ℕ) → Option (ℕ × ℕ) → Option (ℕ × ℕ)
-orNext none other = other
-orNext (some r) other = some r
 
 -- Why a module is turned back: tests 1 to 3, then 5, where the output is shorter than the input
 abbrev pub refusal : (input : List ℕ) → (room : ℕ) → Option (ℕ × ℕ)

@@ -1,4 +1,5 @@
 // A module with its items in another order, which a number decides.
+use node::bytes::HEAD_END;
 use node::bytes::length_at;
 use node::layout::Layout;
 use node::layout::check_layout;
@@ -7,18 +8,16 @@ ghost use mathlib.Core.List.{_++_, List·Permᴰ};
 ghost use Prim.Native.Nat.{_+_, _<_, _≤_};
 ghost use lib.ListN.{length, drop};
 ghost use lib.Seq.{paste};
+ghost use Rattle.contract.specs.Moments.{old, final};
 ghost use Rattle.node.specs.Layout.{layoutOf};
 ghost use Rattle.node.specs.declared.layout.Layout.the-variants.{Good};
-ghost use Rattle.reorder.specs.Order.{arranged, exchanged, Listed, Places, Reordered, Shuffled};
+ghost use Rattle.reorder.specs.Order.{arranged, exchanged, PlacesListed, Places, Reordered, Shuffled};
 
 // The answer: the module is written, or turned back for a reason and at a place.
 pub enum Answer {
     Written,
     Refused { number: u32, place: usize },
 }
-
-// Where the record of the names starts.
-const NAMES: usize = 16;
 
 // No module has more items: each has at least 16 bytes.
 const MAX_ITEMS: usize = 4096;
@@ -32,9 +31,9 @@ const FACTOR: usize = 279470273;
 fn list_items(s: &[u8], places: &mut [usize]) -> usize
     requires { ⌜ layoutOf (now s) ≡ Good ⌝ }
     requires { ⌜ 4096 ≤ length (now places) ⌝ }
-    ensures { λ r. ⌜ Listed (now (s .entry)) (now (places .exit)) r ⌝ }
+    ensures { λ r. ⌜ PlacesListed (old s) (final places) r ⌝ }
 {
-    let mut at = NAMES + length_at(s, NAMES);
+    let mut at = HEAD_END + length_at(s, HEAD_END);
     let mut count: usize = 0;
     while at < s.len() {
         places[count] = at;
@@ -47,7 +46,7 @@ fn list_items(s: &[u8], places: &mut [usize]) -> usize
 // Exchanges two places.
 fn exchange(places: &mut [usize], i: usize, j: usize)
     requires { ⌜ (i < length (now places)) × (j < length (now places)) ⌝ }
-    ensures { λ _. ⌜ now (places .exit) ≡ exchanged (now (places .entry)) i j ⌝ }
+    ensures { λ _. ⌜ final places ≡ exchanged (old places) i j ⌝ }
 {
     let first = places[i];
     places[i] = places[j];
@@ -64,7 +63,7 @@ fn next_number(number: usize) -> usize
 
 // Puts the places in an order that the number decides: each, from the last, is exchanged with one of those up to it.
 fn permute(places: &mut [usize], seed: usize)
-    ensures { λ _. ⌜ List·Permᴰ (now (places .entry)) (now (places .exit)) ⌝ }
+    ensures { λ _. ⌜ List·Permᴰ (old places) (final places) ⌝ }
 {
     let mut number = seed % MODULUS;
     let mut left = places.len();
@@ -78,7 +77,7 @@ fn permute(places: &mut [usize], seed: usize)
 // Copies bytes to a place of the output.
 fn copy_to(part: &[u8], output: &mut [u8], to: usize)
     requires { ⌜ to + length (now part) ≤ length (now output) ⌝ }
-    ensures { λ _. ⌜ now (output .exit) ≡ paste (now (output .entry)) to (now (part .entry)) (length (now (part .entry))) ⌝ }
+    ensures { λ _. ⌜ final output ≡ paste (old output) to (old part) (length (old part)) ⌝ }
 {
     let mut i: usize = 0;
     while i < part.len() {
@@ -91,9 +90,9 @@ fn copy_to(part: &[u8], output: &mut [u8], to: usize)
 fn arrange(s: &[u8], places: &[usize], output: &mut [u8])
     requires { ⌜ Places (now s) (now places) ⌝ }
     requires { ⌜ length (now s) ≤ length (now output) ⌝ }
-    ensures { λ _. ⌜ now (output .exit) ≡ arranged (now (s .entry)) (now (places .entry)) ++ drop (length (now (s .entry))) (now (output .entry)) ⌝ }
+    ensures { λ _. ⌜ final output ≡ arranged (old s) (old places) ++ drop (length (old s)) (old output) ⌝ }
 {
-    let mut to = NAMES + length_at(s, NAMES);
+    let mut to = HEAD_END + length_at(s, HEAD_END);
     copy_to(&s[..to], output, 0);
     let mut next: usize = 0;
     while next < places.len() {
@@ -105,12 +104,13 @@ fn arrange(s: &[u8], places: &[usize], output: &mut [u8])
     }
 }
 
-// Writes a module with no fault in its layout, with its items in an order that the number decides. There is room for their places.
+// Writes a module with no fault in its layout, with its items in an order that the number decides. There is room for
+// their places.
 fn write_items(input: &[u8], number: usize, places: &mut [usize], output: &mut [u8])
     requires { ⌜ layoutOf (now input) ≡ Good ⌝ }
     requires { ⌜ 4096 ≤ length (now places) ⌝ }
     requires { ⌜ length (now input) ≤ length (now output) ⌝ }
-    ensures { λ _. ⌜ Reordered (now (input .entry)) (now (output .entry)) (now (output .exit)) ⌝ }
+    ensures { λ _. ⌜ Reordered (old input) (old output) (final output) ⌝ }
 {
     let count = list_items(input, places);
     permute(&mut places[..count], number);
@@ -120,7 +120,7 @@ fn write_items(input: &[u8], number: usize, places: &mut [usize], output: &mut [
 // The same, if the output is as long as the input.
 fn shuffle_items(input: &[u8], number: usize, output: &mut [u8]) -> Answer
     requires { ⌜ layoutOf (now input) ≡ Good ⌝ }
-    ensures { λ r. ⌜ Shuffled (now (input .entry)) (now (output .entry)) (now (output .exit)) r ⌝ }
+    ensures { λ r. ⌜ Shuffled (old input) (old output) (final output) r ⌝ }
 {
     if output.len() < input.len() {
         return Answer::Refused {
@@ -135,7 +135,7 @@ fn shuffle_items(input: &[u8], number: usize, output: &mut [u8]) -> Answer
 
 // Writes the module with its items in an order that the number decides; or says why it is turned back.
 pub fn shuffle(input: &[u8], number: usize, output: &mut [u8]) -> Answer
-    ensures { λ r. ⌜ Shuffled (now (input .entry)) (now (output .entry)) (now (output .exit)) r ⌝ }
+    ensures { λ r. ⌜ Shuffled (old input) (old output) (final output) r ⌝ }
 {
     let layout = check_layout(input);
     match layout {

@@ -1,9 +1,7 @@
 // The errors of a case and the checker's.
 use crate::expected::number_of;
 use crate::expected::word_of;
-
-// Words of an error.
-const ERROR_WIDTH: usize = 7;
+use fallible::ERROR_WIDTH;
 
 // Whether the operand of an error of this kind is a row: the first, the second, the third.
 fn first_is_row(kind: u32) -> bool {

@@ -1,10 +1,13 @@
-// A case is a list of words, least byte first: its length in bytes; the length of the module; the bytes of output, the words of rows, of
-// errors and of work that are lent; the number and the place of the refusal, or 0 and 0; how many rows, errors and slots there are. Then
-// come the module; the rows in any numbering from 1; the errors, and the row of each slot in byte order, by that numbering.
+// A case is a list of words, least byte first: its length in bytes; the length of the module; the bytes of output, the
+// words of rows, of errors and of work that are lent; the number and the place of the refusal, or 0 and 0; how many
+// rows, errors and slots there are. Then come the module; the rows in any numbering from 1; the errors, and the row of
+// each slot in byte order, by that numbering.
 use crate::errors::errors_match;
 use crate::expected::word_of;
 use crate::output::output_matches;
-use crate::rows::rows_match;
+use crate::row_numbers::rows_match;
+use fallible::ERROR_WIDTH;
+use rows::ROW_WIDTH;
 use type_check::Answer;
 use type_check::type_check_module;
 ghost use Prim.Native.Nat.{_<_, _≤_, _^_};
@@ -41,6 +44,9 @@ pub enum Verdict {
     Differs,
 }
 
+// Bytes of a word.
+const WORD: usize = 4;
+
 // The number of no refusal: a case is not as it should be, or asks for more than there is.
 const BAD_CASE: u32 = 9;
 
@@ -63,9 +69,9 @@ fn parts_of(case: &[u8]) -> Parts
     ensures { λ r. ⌜ (44 ≤ r .rows) × (r .rows ≤ r .errors) × (r .errors ≤ r .slots) × (r .slots ≤ r .end) ⌝ }
 {
     let rows = HEAD + size(case, MODULE);
-    let errors = rows + 16 * size(case, ROW_COUNT);
-    let slots = errors + 28 * size(case, ERROR_COUNT);
-    let end = slots + 4 * size(case, SLOT_COUNT);
+    let errors = rows + WORD * ROW_WIDTH * size(case, ROW_COUNT);
+    let slots = errors + WORD * ERROR_WIDTH * size(case, ERROR_COUNT);
+    let end = slots + WORD * size(case, SLOT_COUNT);
     Parts {
         rows,
         errors,

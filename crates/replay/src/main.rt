@@ -1,29 +1,32 @@
-// Runs the checker on cases whose answers are known, and prints a line for each of the first that differ, then how many were accepted
-// and refused as expected and how many differ. Standard input is a list of cases (src/judge.rt).
+// Runs the checker on cases whose answers are known, and prints a line for each of the first that differ, then how
+// many were accepted and refused as expected and how many differ. Standard input is a list of cases (src/judge.rt).
 mod errors;
 mod expected;
 mod judge;
 mod output;
-mod rows;
+mod row_numbers;
 
 use judge::Verdict;
 use judge::judge;
 use libc::STDIN_FILENO;
 use node::bytes::length_at;
-use programs::print::print_text;
-use programs::print::print_word;
+use program_support::loans;
+use program_support::print::print_text;
+use program_support::print::print_word;
 ghost use Prim.Native.Nat.{_+_, _<_, _≤_};
 ghost use lib.ListN.{length};
+ghost use Rattle.contract.specs.Moments.{final};
 
 // No more cases than this are run, and no more differences are printed.
 const CASES: u32 = 1000000;
 
 const SHOWN: u32 = 20;
 
-// Reads the next case: how many bytes it has. 0 is the end; a case that is longer than the room or than the input is cut.
+// Reads the next case: how many bytes it has. 0 is the end; a case that is longer than the room or than the input is
+// cut.
 fn read_case(case: &mut [u8]) -> usize
     requires { ⌜ 4 ≤ length (now case) ⌝ }
-    ensures { λ r. ⌜ r ≤ length (now (case .exit)) ⌝ }
+    ensures { λ r. ⌜ r ≤ length (final case) ⌝ }
 {
     if io::read_full(STDIN_FILENO, &mut case[0..4]) < 4 {
         return 0;
@@ -94,9 +97,9 @@ fn print_tally(tally: Tally) {
 fn main() {
     let mut case = [0u8; 250000];
     let mut output = [0u8; 70000];
-    let mut rows = [0u32; 12000];
-    let mut errors = [0u32; 14000];
-    let mut work = [0u32; 16376];
+    let mut rows = [0u32; loans::ROWS];
+    let mut errors = [0u32; loans::ERRORS];
+    let mut work = [0u32; loans::WORK];
     let mut tally = Tally {
         good: 0,
         refused: 0,

@@ -1,12 +1,13 @@
-// The report program of document 01: reads a module from standard input, and prints how many rows and errors it has, then kind, file,
-// line and column of each error; or why it is turned back.
+// The report program of document 01: reads a module from standard input, and prints how many rows and errors it has,
+// then kind, file, line and column of each error; or why it is turned back.
 use fallible::Error;
 use libc::STDIN_FILENO;
-use programs::print::print_number;
-use programs::print::print_refused;
-use programs::print::print_text;
-use programs::print::print_word;
-use programs::print::print_words;
+use program_support::loans;
+use program_support::print::print_number;
+use program_support::print::print_refused;
+use program_support::print::print_text;
+use program_support::print::print_word;
+use program_support::print::print_words;
 use records::report_module;
 use type_check::Answer;
 ghost use Prim.Native.Nat.{_≤_};
@@ -39,11 +40,11 @@ fn print_counts(rows: u32, errors: usize) {
 }
 
 fn main() {
-    let mut input = [0u8; 65537];
-    let mut output = [0u8; 65536];
-    let mut rows = [0u32; 12000];
-    let mut words = [0u32; 14000];
-    let mut work = [0u32; 16376];
+    let mut input = [0u8; loans::INPUT];
+    let mut output = [0u8; loans::OUTPUT];
+    let mut rows = [0u32; loans::ROWS];
+    let mut words = [0u32; loans::ERRORS];
+    let mut work = [0u32; loans::WORK];
     let n = io::read_full(STDIN_FILENO, &mut input);
     let report = report_module(&input[..n], &mut output, &mut rows, &mut words, &mut work);
     let answer = report.answer;

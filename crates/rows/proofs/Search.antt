@@ -7,7 +7,7 @@ use native.Mathlib.Omega.{arith}
 use native.Mathlib.Nat.{le-suc-iff}
 use native.Mathlib.Numerals.{add-one}
 use mathlib.Core.Logic.{⊎-elim}
-use borrow.Author.Tests.{leb-true, leb-false, not-false, not-true}
+use borrow.Author.Tests.{leb-true, leb-false, not-false}
 use lib.Dec.{leb}
 use lib.ListN.{getD}
 use Rattle.rows.specs.Row.{rowWidth, rowAt}

@@ -2,6 +2,7 @@
 ghost use mathlib.Core.Path.{_≡_};
 ghost use Prim.Native.Nat.{_+_, _*_, _≤_, _<_};
 ghost use lib.ListN.{length};
+ghost use Rattle.contract.specs.Moments.{old, final};
 ghost use Rattle.rows.specs.Row.{words, rowWidth, rowAt, stored};
 ghost use Rattle.rows.specs.Search.{Decides, KeyOf, NoneWith, Skipped, NextWith, Found};
 
@@ -38,7 +39,7 @@ struct Key {
 // The words of row n.
 pub fn row_at(rows: &[u32], n: u32) -> Words
     requires { ⌜ (1 ≤ n) × (rowWidth * n ≤ length (now rows)) ⌝ }
-    ensures { λ r. ⌜ r ≡ rowAt (now (rows .entry)) n ⌝ }
+    ensures { λ r. ⌜ r ≡ rowAt (old rows) n ⌝ }
 {
     let at = ROW_WIDTH * (n as usize) - ROW_WIDTH;
     Words {
@@ -65,7 +66,8 @@ pub fn alike(a: Words, b: Words) -> bool
     a.kind == b.kind
 }
 
-// The word by which a row is looked for, since few rows have it: the name, or the second word, or the first, whichever is not 0.
+// The word by which a row is looked for, since few rows have it: the name, or the second word, or the first, whichever
+// is not 0.
 fn key_of(row: Words) -> Key
     ensures { λ r. ⌜ KeyOf row r ⌝ }
 {
@@ -90,7 +92,7 @@ fn key_of(row: Words) -> Key
 // Whether none of the four rows past row n has the key.
 fn none_of_four(rows: &[u32], n: u32, key: Key) -> bool
     requires { ⌜ (key .place < rowWidth) × (rowWidth * n + rowWidth * 4 ≤ length (now rows)) ⌝ }
-    ensures { λ r. ⌜ Decides (NoneWith (now (rows .entry)) key n (n + 4)) r ⌝ }
+    ensures { λ r. ⌜ Decides (NoneWith (old rows) key n (n + 4)) r ⌝ }
 {
     let at = ROW_WIDTH * (n as usize) + key.place;
     if rows[at] == key.word {
@@ -111,7 +113,7 @@ fn none_of_four(rows: &[u32], n: u32, key: Key) -> bool
 // Goes on from row m, four rows at a time, while none of them has the key.
 fn skip_rows(rows: &[u32], m: u32, count: u32, key: Key) -> u32
     requires { ⌜ (key .place < rowWidth) × (m ≤ count) × (rowWidth * count ≤ length (now rows)) ⌝ }
-    ensures { λ r. ⌜ Skipped (now (rows .entry)) m count key r ⌝ }
+    ensures { λ r. ⌜ Skipped (old rows) m count key r ⌝ }
 {
     let mut n = m;
     while 4 <= count - n {
@@ -126,7 +128,7 @@ fn skip_rows(rows: &[u32], m: u32, count: u32, key: Key) -> u32
 // The first row past row m that has the key, or 0.
 fn next_with(rows: &[u32], m: u32, count: u32, key: Key) -> u32
     requires { ⌜ (key .place < rowWidth) × (m ≤ count) × (rowWidth * count ≤ length (now rows)) ⌝ }
-    ensures { λ r. ⌜ NextWith (now (rows .entry)) m count key r ⌝ }
+    ensures { λ r. ⌜ NextWith (old rows) m count key r ⌝ }
 {
     let mut n = skip_rows(rows, m, count, key);
     while n < count {
@@ -142,7 +144,7 @@ fn next_with(rows: &[u32], m: u32, count: u32, key: Key) -> u32
 // The row past row m that has these words, or 0.
 pub fn find(rows: &[u32], m: u32, count: u32, row: Words) -> u32
     requires { ⌜ (m ≤ count) × (rowWidth * count ≤ length (now rows)) ⌝ }
-    ensures { λ r. ⌜ Found (now (rows .entry)) m count row r ⌝ }
+    ensures { λ r. ⌜ Found (old rows) m count row r ⌝ }
 {
     let key = key_of(row);
     let mut n = m;
@@ -161,7 +163,7 @@ pub fn find(rows: &[u32], m: u32, count: u32, row: Words) -> u32
 // Stores the row behind the first `count` rows.
 pub fn store(rows: &mut [u32], count: u32, row: Words)
     requires { ⌜ rowWidth * count + rowWidth ≤ length (now rows) ⌝ }
-    ensures { λ _. ⌜ now (rows .exit) ≡ stored (now (rows .entry)) count row ⌝ }
+    ensures { λ _. ⌜ final rows ≡ stored (old rows) count row ⌝ }
 {
     let at = ROW_WIDTH * (count as usize);
     rows[at] = row.kind;

@@ -4,10 +4,18 @@ use mathlib.Core.Path.{_≡_}
 use mathlib.Core.Bool.{Bool, true, false, _&&_, _||_}
 use mathlib.Core.List.{List, [], _∷_}
 use lib.Dec.{leb, ltb, eqb}
+use Rattle.shape.specs.Kinds as kinds
 use Rattle.shape.specs.declared.Rule.{Rule}
-use Rattle.shape.specs.declared.Rule.the-variants.{Unused, Slot, Name, Any, Base, Flag, Operator, Comparison, Flags}
+use Rattle.shape.specs.declared.Rule.the-variants.{Unused, Slot, Name, Any, Base, Flag, Operator, Comparison}
+use Rattle.shape.specs.declared.Rule.the-variants.{Flags}
 use Rattle.shape.specs.declared.Holds.{Holds}
-use Rattle.shape.specs.declared.Holds.the-variants.{Nothing, FreeBytes, OneModule, NamesThenItems, Items, Names, OneType, Fields, OneExpression, TwoExpressions, CallParts, Expressions, ExpressionThenType, CompoundFields, Statements, Declaration, InitialValue, ExpressionThenCompound, OneCompound, OptionalExpression, OneStatement, ExpressionThenStatement, IfParts, ThenPart, OptionalStatement, FunctionParts, Parameters}
+use Rattle.shape.specs.declared.Holds.the-variants.{Nothing, FreeBytes, OneModule, NamesThenItems, Items, Names}
+use Rattle.shape.specs.declared.Holds.the-variants.{OneType, Fields, OneExpression, TwoExpressions, CallParts}
+use Rattle.shape.specs.declared.Holds.the-variants.{Expressions, ExpressionThenType, CompoundFields, Statements}
+use Rattle.shape.specs.declared.Holds.the-variants.{Declaration, InitialValue, ExpressionThenCompound}
+use Rattle.shape.specs.declared.Holds.the-variants.{OneCompound, OptionalExpression, OneStatement}
+use Rattle.shape.specs.declared.Holds.the-variants.{ExpressionThenStatement, IfParts, ThenPart, OptionalStatement}
+use Rattle.shape.specs.declared.Holds.the-variants.{FunctionParts, Parameters}
 use Rattle.shape.specs.declared.Shape.{Shape}
 use Rattle.shape.specs.declared.Due.{Due}
 
@@ -21,42 +29,42 @@ abbrev pub unlisted : ℕ
 unlisted = 0
 
 abbrev pub aModule : ℕ
-aModule = 1
+aModule = kinds.wholeModule
 
 abbrev pub aNames : ℕ
-aNames = 2
+aNames = kinds.names
 
 abbrev pub aName : ℕ
-aName = 3
+aName = kinds.name
 
 -- T: 16 to 20
 abbrev pub aType : ℕ
-aType = 16
+aType = kinds.namedType
 
 abbrev pub aField : ℕ
-aField = 21
+aField = kinds.field
 
 -- E: 32 to 47
 abbrev pub anExpression : ℕ
-anExpression = 32
+anExpression = kinds.identifier
 
 -- C: 48, 49
 abbrev pub aCompound : ℕ
-aCompound = 48
+aCompound = kinds.arrayCompound
 
 abbrev pub aCompoundField : ℕ
-aCompoundField = 50
+aCompoundField = kinds.compoundField
 
 -- S: 64 to 74
 abbrev pub aStatement : ℕ
-aStatement = 64
+aStatement = kinds.block
 
 -- items: 80 to 84
 abbrev pub anItem : ℕ
-anItem = 80
+anItem = kinds.functionDefinition
 
 abbrev pub aParameter : ℕ
-aParameter = 85
+aParameter = kinds.parameter
 
 -- A record's class, its fields and what it holds after them
 abbrev pub noField : ℕ → Holds → Shape
@@ -71,51 +79,51 @@ twoFields c a b h = record { class = c; fields = 2; first = a; second = b; holds
 -- Document 01's list of records: a kind, its class, its fields, what it holds after them
 abbrev pub shapes : List (ℕ × Shape)
 shapes =
-    (1, noField aModule NamesThenItems)
-    ∷ (2, noField aNames Names)
-    ∷ (3, noField aName FreeBytes)
-    ∷ (16, twoFields aType Slot Name Nothing)
-    ∷ (17, oneField aType Slot Nothing)
-    ∷ (18, oneField aType Slot OneType)
-    ∷ (19, twoFields aType Slot Any OneType)
-    ∷ (20, oneField aType Slot Fields)
-    ∷ (21, oneField aField Name OneType)
-    ∷ (32, twoFields anExpression Slot Name Nothing)
-    ∷ (33, twoFields anExpression Slot Base FreeBytes)
-    ∷ (34, twoFields anExpression Slot Flag Nothing)
-    ∷ (35, oneField anExpression Slot FreeBytes)
-    ∷ (36, oneField anExpression Slot CallParts)
-    ∷ (37, oneField anExpression Slot TwoExpressions)
-    ∷ (38, oneField anExpression Slot ExpressionThenType)
-    ∷ (39, oneField anExpression Slot OneExpression)
-    ∷ (40, oneField anExpression Slot OneExpression)
-    ∷ (41, twoFields anExpression Slot Name OneExpression)
-    ∷ (42, oneField anExpression Slot OneExpression)
-    ∷ (43, oneField anExpression Slot OneExpression)
-    ∷ (44, oneField anExpression Slot TwoExpressions)
-    ∷ (45, twoFields anExpression Slot Operator TwoExpressions)
-    ∷ (46, twoFields anExpression Slot Comparison TwoExpressions)
-    ∷ (47, oneField anExpression Slot OneType)
-    ∷ (48, noField aCompound Expressions)
-    ∷ (49, noField aCompound CompoundFields)
-    ∷ (50, oneField aCompoundField Name OneExpression)
-    ∷ (64, oneField aStatement Flag Statements)
-    ∷ (65, noField aStatement OneExpression)
-    ∷ (66, oneField aStatement Name Declaration)
-    ∷ (67, noField aStatement TwoExpressions)
-    ∷ (68, noField aStatement ExpressionThenCompound)
-    ∷ (69, noField aStatement OptionalExpression)
-    ∷ (70, noField aStatement OneStatement)
-    ∷ (71, noField aStatement ExpressionThenStatement)
-    ∷ (72, noField aStatement Nothing)
-    ∷ (73, noField aStatement IfParts)
-    ∷ (74, noField aStatement FreeBytes)
-    ∷ (80, oneField anItem Name FunctionParts)
-    ∷ (81, twoFields anItem Name Flags OneType)
-    ∷ (82, noField anItem FreeBytes)
-    ∷ (83, oneField anItem Name Declaration)
-    ∷ (84, noField anItem FreeBytes)
-    ∷ (85, oneField aParameter Name OneType)
+    (kinds.wholeModule, noField aModule NamesThenItems)
+    ∷ (kinds.names, noField aNames Names)
+    ∷ (kinds.name, noField aName FreeBytes)
+    ∷ (kinds.namedType, twoFields aType Slot Name Nothing)
+    ∷ (kinds.voidType, oneField aType Slot Nothing)
+    ∷ (kinds.pointerType, oneField aType Slot OneType)
+    ∷ (kinds.arrayType, twoFields aType Slot Any OneType)
+    ∷ (kinds.structType, oneField aType Slot Fields)
+    ∷ (kinds.field, oneField aField Name OneType)
+    ∷ (kinds.identifier, twoFields anExpression Slot Name Nothing)
+    ∷ (kinds.integer, twoFields anExpression Slot Base FreeBytes)
+    ∷ (kinds.boolean, twoFields anExpression Slot Flag Nothing)
+    ∷ (kinds.string, oneField anExpression Slot FreeBytes)
+    ∷ (kinds.call, oneField anExpression Slot CallParts)
+    ∷ (kinds.index, oneField anExpression Slot TwoExpressions)
+    ∷ (kinds.cast, oneField anExpression Slot ExpressionThenType)
+    ∷ (kinds.pointerTake, oneField anExpression Slot OneExpression)
+    ∷ (kinds.pointerDereference, oneField anExpression Slot OneExpression)
+    ∷ (kinds.fieldAccess, twoFields anExpression Slot Name OneExpression)
+    ∷ (kinds.bitwiseNot, oneField anExpression Slot OneExpression)
+    ∷ (kinds.booleanNot, oneField anExpression Slot OneExpression)
+    ∷ (kinds.booleanAnd, oneField anExpression Slot TwoExpressions)
+    ∷ (kinds.arithmeticBinOp, twoFields anExpression Slot Operator TwoExpressions)
+    ∷ (kinds.comparisonBinOp, twoFields anExpression Slot Comparison TwoExpressions)
+    ∷ (kinds.sizeof, oneField anExpression Slot OneType)
+    ∷ (kinds.arrayCompound, noField aCompound Expressions)
+    ∷ (kinds.structCompound, noField aCompound CompoundFields)
+    ∷ (kinds.compoundField, oneField aCompoundField Name OneExpression)
+    ∷ (kinds.block, oneField aStatement Flag Statements)
+    ∷ (kinds.expressionStatement, noField aStatement OneExpression)
+    ∷ (kinds.variableDeclaration, oneField aStatement Name Declaration)
+    ∷ (kinds.assignment, noField aStatement TwoExpressions)
+    ∷ (kinds.compoundAssignment, noField aStatement ExpressionThenCompound)
+    ∷ (kinds.return, noField aStatement OptionalExpression)
+    ∷ (kinds.loop, noField aStatement OneStatement)
+    ∷ (kinds.while, noField aStatement ExpressionThenStatement)
+    ∷ (kinds.break, noField aStatement Nothing)
+    ∷ (kinds.ifStatement, noField aStatement IfParts)
+    ∷ (kinds.inlineAssembly, noField aStatement FreeBytes)
+    ∷ (kinds.functionDefinition, oneField anItem Name FunctionParts)
+    ∷ (kinds.typeAlias, twoFields anItem Name Flags OneType)
+    ∷ (kinds.useItem, noField anItem FreeBytes)
+    ∷ (kinds.globalDeclaration, oneField anItem Name Declaration)
+    ∷ (kinds.assemblyItem, noField anItem FreeBytes)
+    ∷ (kinds.parameter, oneField aParameter Name OneType)
     ∷ []
 
 -- the shape that a list gives a kind

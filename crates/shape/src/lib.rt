@@ -1,34 +1,39 @@
 // Document 01's list of records: the shape of each kind, and what is due in each state of a child list.
+pub mod kinds;
+
 ghost use mathlib.Core.Path.{_≡_};
 ghost use Prim.Native.Nat.{_≤_};
-ghost use Rattle.shape.specs.Shape.{shapeOf, Shaped, noField, oneField, twoFields, nothingDue, bytesDue, mustBe, mayBe, mayBeEither, dueIn, isDone, mayStand, stateAfter, isBetween, allowed};
+ghost use Rattle.shape.specs.Kinds as kinds;
+ghost use Rattle.shape.specs.Shape.{shapeOf, Shaped, noField, oneField, twoFields, nothingDue, bytesDue, mustBe};
+ghost use Rattle.shape.specs.Shape.{mayBe, mayBeEither, dueIn, isDone, mayStand, stateAfter, isBetween, allowed};
 
 // The classes of kinds, each by its lowest kind. A kind that is in no list has class 0.
 pub const UNLISTED: u32 = 0;
 
-pub const MODULE: u32 = 1;
+pub const MODULE: u32 = kinds::MODULE;
 
-pub const NAMES: u32 = 2;
+pub const NAMES: u32 = kinds::NAMES;
 
-pub const NAME: u32 = 3;
+pub const NAME: u32 = kinds::NAME;
 
-pub const TYPE: u32 = 16;
+pub const TYPE: u32 = kinds::NAMED_TYPE;
 
-pub const FIELD: u32 = 21;
+pub const FIELD: u32 = kinds::FIELD;
 
-pub const EXPRESSION: u32 = 32;
+pub const EXPRESSION: u32 = kinds::IDENTIFIER;
 
-pub const COMPOUND: u32 = 48;
+pub const COMPOUND: u32 = kinds::ARRAY_COMPOUND;
 
-pub const COMPOUND_FIELD: u32 = 50;
+pub const COMPOUND_FIELD: u32 = kinds::COMPOUND_FIELD;
 
-pub const STATEMENT: u32 = 64;
+pub const STATEMENT: u32 = kinds::BLOCK;
 
-pub const ITEM: u32 = 80;
+pub const ITEM: u32 = kinds::FUNCTION_DEFINITION;
 
-pub const PARAMETER: u32 = 85;
+pub const PARAMETER: u32 = kinds::PARAMETER;
 
-// What a field of four bytes may hold: nothing is there; 0; the number of a name; any value; 2 to 36; 0 or 1; 1 to 8; 1 to 5; 0 to 3.
+// What a field of four bytes may hold: nothing is there; 0; the number of a name; any value; 2 to 36; 0 or 1; 1 to 8;
+// 1 to 5; 0 to 3.
 pub enum Rule {
     Unused,
     Slot,
@@ -41,8 +46,9 @@ pub enum Rule {
     Flags,
 }
 
-// What a record holds after its fields, or what is left of that: the state of a child list. CallParts are E, then Es; a Declaration
-// is T, then an InitialValue: nothing, E or C; IfParts are E, S, perhaps S; FunctionParts are T, then Parameters: records 85, then S or nothing.
+// What a record holds after its fields, or what is left of that: the state of a child list. CallParts are E, then Es;
+// a Declaration is T, then an InitialValue: nothing, E or C; IfParts are E, S, perhaps S; FunctionParts are T, then
+// Parameters: records 85, then S or nothing.
 pub enum Holds {
     Nothing,
     FreeBytes,
@@ -82,7 +88,8 @@ pub struct Shape {
     pub holds: Holds,
 }
 
-// What is due in a state: free bytes, or a record of one of two classes (0: none), each with the state after it. The list may end or not.
+// What is due in a state: free bytes, or a record of one of two classes (0: none), each with the state after it. The
+// list may end or not.
 pub struct Due {
     pub free: bool,
     pub ends: bool,
@@ -133,53 +140,53 @@ fn two_fields(class: u32, first: Rule, second: Rule, holds: Holds) -> Shape
 
 // T: the types.
 fn type_shape(kind: u32) -> Shape
-    requires { ⌜ (16 ≤ kind) × (kind ≤ 20) ⌝ }
+    requires { ⌜ (kinds.namedType ≤ kind) × (kind ≤ kinds.structType) ⌝ }
     ensures { λ r. ⌜ Shaped kind r ⌝ }
 {
     match kind {
-        16 => two_fields(TYPE, Rule::Slot, Rule::Name, Holds::Nothing),
-        17 => one_field(TYPE, Rule::Slot, Holds::Nothing),
-        18 => one_field(TYPE, Rule::Slot, Holds::OneType),
-        19 => two_fields(TYPE, Rule::Slot, Rule::Any, Holds::OneType),
+        kinds::NAMED_TYPE => two_fields(TYPE, Rule::Slot, Rule::Name, Holds::Nothing),
+        kinds::VOID_TYPE => one_field(TYPE, Rule::Slot, Holds::Nothing),
+        kinds::POINTER_TYPE => one_field(TYPE, Rule::Slot, Holds::OneType),
+        kinds::ARRAY_TYPE => two_fields(TYPE, Rule::Slot, Rule::Any, Holds::OneType),
         _ => one_field(TYPE, Rule::Slot, Holds::Fields),
     }
 }
 
 // E: the expressions up to the cast.
 fn expression_shape(kind: u32) -> Shape
-    requires { ⌜ (32 ≤ kind) × (kind ≤ 38) ⌝ }
+    requires { ⌜ (kinds.identifier ≤ kind) × (kind ≤ kinds.cast) ⌝ }
     ensures { λ r. ⌜ Shaped kind r ⌝ }
 {
     match kind {
-        32 => two_fields(EXPRESSION, Rule::Slot, Rule::Name, Holds::Nothing),
-        33 => two_fields(EXPRESSION, Rule::Slot, Rule::Base, Holds::FreeBytes),
-        34 => two_fields(EXPRESSION, Rule::Slot, Rule::Flag, Holds::Nothing),
-        35 => one_field(EXPRESSION, Rule::Slot, Holds::FreeBytes),
-        36 => one_field(EXPRESSION, Rule::Slot, Holds::CallParts),
-        37 => one_field(EXPRESSION, Rule::Slot, Holds::TwoExpressions),
+        kinds::IDENTIFIER => two_fields(EXPRESSION, Rule::Slot, Rule::Name, Holds::Nothing),
+        kinds::INTEGER => two_fields(EXPRESSION, Rule::Slot, Rule::Base, Holds::FreeBytes),
+        kinds::BOOLEAN => two_fields(EXPRESSION, Rule::Slot, Rule::Flag, Holds::Nothing),
+        kinds::STRING => one_field(EXPRESSION, Rule::Slot, Holds::FreeBytes),
+        kinds::CALL => one_field(EXPRESSION, Rule::Slot, Holds::CallParts),
+        kinds::INDEX => one_field(EXPRESSION, Rule::Slot, Holds::TwoExpressions),
         _ => one_field(EXPRESSION, Rule::Slot, Holds::ExpressionThenType),
     }
 }
 
 // E: the operators, and the size of a type.
 fn operator_shape(kind: u32) -> Shape
-    requires { ⌜ (39 ≤ kind) × (kind ≤ 47) ⌝ }
+    requires { ⌜ (kinds.pointerTake ≤ kind) × (kind ≤ kinds.sizeof) ⌝ }
     ensures { λ r. ⌜ Shaped kind r ⌝ }
 {
     match kind {
-        39 => one_field(EXPRESSION, Rule::Slot, Holds::OneExpression),
-        40 => one_field(EXPRESSION, Rule::Slot, Holds::OneExpression),
-        41 => two_fields(EXPRESSION, Rule::Slot, Rule::Name, Holds::OneExpression),
-        42 => one_field(EXPRESSION, Rule::Slot, Holds::OneExpression),
-        43 => one_field(EXPRESSION, Rule::Slot, Holds::OneExpression),
-        44 => one_field(EXPRESSION, Rule::Slot, Holds::TwoExpressions),
-        45 => two_fields(
+        kinds::POINTER_TAKE => one_field(EXPRESSION, Rule::Slot, Holds::OneExpression),
+        kinds::POINTER_DEREFERENCE => one_field(EXPRESSION, Rule::Slot, Holds::OneExpression),
+        kinds::FIELD_ACCESS => two_fields(EXPRESSION, Rule::Slot, Rule::Name, Holds::OneExpression),
+        kinds::BITWISE_NOT => one_field(EXPRESSION, Rule::Slot, Holds::OneExpression),
+        kinds::BOOLEAN_NOT => one_field(EXPRESSION, Rule::Slot, Holds::OneExpression),
+        kinds::BOOLEAN_AND => one_field(EXPRESSION, Rule::Slot, Holds::TwoExpressions),
+        kinds::ARITHMETIC_BIN_OP => two_fields(
             EXPRESSION,
             Rule::Slot,
             Rule::Operator,
             Holds::TwoExpressions,
         ),
-        46 => two_fields(
+        kinds::COMPARISON_BIN_OP => two_fields(
             EXPRESSION,
             Rule::Slot,
             Rule::Comparison,
@@ -191,56 +198,56 @@ fn operator_shape(kind: u32) -> Shape
 
 // S: the statements.
 fn statement_shape(kind: u32) -> Shape
-    requires { ⌜ (64 ≤ kind) × (kind ≤ 74) ⌝ }
+    requires { ⌜ (kinds.block ≤ kind) × (kind ≤ kinds.inlineAssembly) ⌝ }
     ensures { λ r. ⌜ Shaped kind r ⌝ }
 {
     match kind {
-        64 => one_field(STATEMENT, Rule::Flag, Holds::Statements),
-        65 => no_field(STATEMENT, Holds::OneExpression),
-        66 => one_field(STATEMENT, Rule::Name, Holds::Declaration),
-        67 => no_field(STATEMENT, Holds::TwoExpressions),
-        68 => no_field(STATEMENT, Holds::ExpressionThenCompound),
-        69 => no_field(STATEMENT, Holds::OptionalExpression),
-        70 => no_field(STATEMENT, Holds::OneStatement),
-        71 => no_field(STATEMENT, Holds::ExpressionThenStatement),
-        72 => no_field(STATEMENT, Holds::Nothing),
-        73 => no_field(STATEMENT, Holds::IfParts),
+        kinds::BLOCK => one_field(STATEMENT, Rule::Flag, Holds::Statements),
+        kinds::EXPRESSION_STATEMENT => no_field(STATEMENT, Holds::OneExpression),
+        kinds::VARIABLE_DECLARATION => one_field(STATEMENT, Rule::Name, Holds::Declaration),
+        kinds::ASSIGNMENT => no_field(STATEMENT, Holds::TwoExpressions),
+        kinds::COMPOUND_ASSIGNMENT => no_field(STATEMENT, Holds::ExpressionThenCompound),
+        kinds::RETURN => no_field(STATEMENT, Holds::OptionalExpression),
+        kinds::LOOP => no_field(STATEMENT, Holds::OneStatement),
+        kinds::WHILE => no_field(STATEMENT, Holds::ExpressionThenStatement),
+        kinds::BREAK => no_field(STATEMENT, Holds::Nothing),
+        kinds::IF_STATEMENT => no_field(STATEMENT, Holds::IfParts),
         _ => no_field(STATEMENT, Holds::FreeBytes),
     }
 }
 
 // The items.
 fn item_shape(kind: u32) -> Shape
-    requires { ⌜ (80 ≤ kind) × (kind ≤ 84) ⌝ }
+    requires { ⌜ (kinds.functionDefinition ≤ kind) × (kind ≤ kinds.assemblyItem) ⌝ }
     ensures { λ r. ⌜ Shaped kind r ⌝ }
 {
     match kind {
-        80 => one_field(ITEM, Rule::Name, Holds::FunctionParts),
-        81 => two_fields(ITEM, Rule::Name, Rule::Flags, Holds::OneType),
-        82 => no_field(ITEM, Holds::FreeBytes),
-        83 => one_field(ITEM, Rule::Name, Holds::Declaration),
+        kinds::FUNCTION_DEFINITION => one_field(ITEM, Rule::Name, Holds::FunctionParts),
+        kinds::TYPE_ALIAS => two_fields(ITEM, Rule::Name, Rule::Flags, Holds::OneType),
+        kinds::USE_ITEM => no_field(ITEM, Holds::FreeBytes),
+        kinds::GLOBAL_DECLARATION => one_field(ITEM, Rule::Name, Holds::Declaration),
         _ => no_field(ITEM, Holds::FreeBytes),
     }
 }
 
-// The shape of a kind.
+// The shape of a kind: types are 16..=20, expressions 32..=47, statements 64..=74, items 80..=84.
 pub fn shape_of(kind: u32) -> Shape
     ensures { λ r. ⌜ Shaped kind r ⌝ }
 {
     match kind {
-        1 => no_field(MODULE, Holds::NamesThenItems),
-        2 => no_field(NAMES, Holds::Names),
-        3 => no_field(NAME, Holds::FreeBytes),
-        16..=20 => type_shape(kind),
-        21 => one_field(FIELD, Rule::Name, Holds::OneType),
-        32..=38 => expression_shape(kind),
-        39..=47 => operator_shape(kind),
-        48 => no_field(COMPOUND, Holds::Expressions),
-        49 => no_field(COMPOUND, Holds::CompoundFields),
-        50 => one_field(COMPOUND_FIELD, Rule::Name, Holds::OneExpression),
-        64..=74 => statement_shape(kind),
-        80..=84 => item_shape(kind),
-        85 => one_field(PARAMETER, Rule::Name, Holds::OneType),
+        kinds::MODULE => no_field(MODULE, Holds::NamesThenItems),
+        kinds::NAMES => no_field(NAMES, Holds::Names),
+        kinds::NAME => no_field(NAME, Holds::FreeBytes),
+        kinds::NAMED_TYPE..=kinds::STRUCT_TYPE => type_shape(kind),
+        kinds::FIELD => one_field(FIELD, Rule::Name, Holds::OneType),
+        kinds::IDENTIFIER..=kinds::CAST => expression_shape(kind),
+        kinds::POINTER_TAKE..=kinds::SIZEOF => operator_shape(kind),
+        kinds::ARRAY_COMPOUND => no_field(COMPOUND, Holds::Expressions),
+        kinds::STRUCT_COMPOUND => no_field(COMPOUND, Holds::CompoundFields),
+        kinds::COMPOUND_FIELD => one_field(COMPOUND_FIELD, Rule::Name, Holds::OneExpression),
+        kinds::BLOCK..=kinds::INLINE_ASSEMBLY => statement_shape(kind),
+        kinds::FUNCTION_DEFINITION..=kinds::ASSEMBLY_ITEM => item_shape(kind),
+        kinds::PARAMETER => one_field(PARAMETER, Rule::Name, Holds::OneType),
         _ => no_field(UNLISTED, Holds::Nothing),
     }
 }
@@ -250,8 +257,26 @@ pub fn field_count(kind: u32) -> usize
     ensures { λ r. ⌜ (r ≡ shapeOf kind .fields) × (r ≤ 2) ⌝ }
 {
     match kind {
-        16 | 19 | 32..=34 | 41 | 45 | 46 | 81 => 2,
-        17 | 18 | 20 | 21 | 35..=40 | 42..=44 | 47 | 50 | 64 | 66 | 80 | 83 | 85 => 1,
+        kinds::NAMED_TYPE
+        | kinds::ARRAY_TYPE
+        | kinds::IDENTIFIER..=kinds::BOOLEAN
+        | kinds::FIELD_ACCESS
+        | kinds::ARITHMETIC_BIN_OP
+        | kinds::COMPARISON_BIN_OP
+        | kinds::TYPE_ALIAS => 2,
+        kinds::VOID_TYPE
+        | kinds::POINTER_TYPE
+        | kinds::STRUCT_TYPE
+        | kinds::FIELD
+        | kinds::STRING..=kinds::POINTER_DEREFERENCE
+        | kinds::BITWISE_NOT..=kinds::BOOLEAN_AND
+        | kinds::SIZEOF
+        | kinds::COMPOUND_FIELD
+        | kinds::BLOCK
+        | kinds::VARIABLE_DECLARATION
+        | kinds::FUNCTION_DEFINITION
+        | kinds::GLOBAL_DECLARATION
+        | kinds::PARAMETER => 1,
         _ => 0,
     }
 }

@@ -1,15 +1,16 @@
-// Writes the module on standard input with its items in another order, which a number decides:  shuffle 7 < module > other
-// What is wrong with the number or the module is written to standard error, and then nothing to standard output.
+// Writes the module on standard input with its items in another order, which a number decides:  shuffle 7 < module >
+// other What is wrong with the number or the module is written to standard error, and then nothing to standard output.
 use libc::STDERR_FILENO;
 use libc::STDIN_FILENO;
 use libc::STDOUT_FILENO;
+use node::layout::MAX_BYTES;
 use reorder::Answer;
 use reorder::MODULUS;
 ghost use Prim.Native.Nat.{_≤_};
 ghost use lib.ListN.{length};
 
 // A byte more than a module may have, so that a longer one is turned back.
-const ROOM: usize = 65537;
+const ROOM: usize = MAX_BYTES + 1;
 
 enum Number {
     Is(usize),

@@ -1,39 +1,59 @@
 // `type_check_statement`: a statement's slots and errors, and the locals that it declares.
+use compound::type_check_compound_assignment;
 use convert::Pass;
 use convert::convert_node_type;
 use convert::error_at;
-use divergence::Inner;
 use divergence::inner_statements;
 use expression::type_check_expression;
+use expression_rules::check_types_are_assignable;
+use expression_rules::report_unless;
 use fallible::kinds::LOCAL_REDEFINED;
 use fallible::kinds::RETURN_NEEDS_VALUE;
+use initial_value::Value;
+use initial_value::type_check_initial;
+use node::bytes::FIELD_END;
+use node::bytes::HEAD_END;
 use node::bytes::length_at;
 use node::bytes::word;
+use node::fine::Entered;
+use node::fine::Node;
+use node::fine::Nodes;
 use node::names::BuiltIns;
-use rules::check_types_are_assignable;
-use state::State;
-use state::Typed;
+use shape::kinds::ASSIGNMENT;
+use shape::kinds::COMPOUND_ASSIGNMENT;
+use shape::kinds::EXPRESSION_STATEMENT;
+use shape::kinds::IF_STATEMENT;
+use shape::kinds::RETURN;
+use shape::kinds::VARIABLE_DECLARATION;
+use shape::kinds::WHILE;
+use walk::State;
+use walk::Typed;
 ghost use mathlib.Core.Path.{_≡_};
-ghost use Prim.Native.Nat.{_+_, _-_, _<_, _≤_};
+ghost use Prim.Native.Nat.{_-_, _<_, _≤_};
 ghost use lib.ListN.{length};
+ghost use Rattle.contract.specs.Moments.{old, final};
+ghost use Rattle.shape.specs.Kinds as kinds;
 ghost use Rattle.shape.specs.Shape.{anExpression, aStatement};
 ghost use Rattle.shape.specs.declared.Holds.the-variants.{Statements};
-ghost use Rattle.node.specs.Bytes.{wordAt};
+ghost use Rattle.node.specs.Bytes.{wordAt, headEnd, fieldEnd};
 ghost use Rattle.node.specs.Layout.{kindAt};
-ghost use Rattle.node.specs.Fine.{FineRecord, FineList};
+ghost use Rattle.node.specs.Fine.{FineRecord, FineNode, FineNodes, nodeOf};
 ghost use Rattle.relations.specs.Entry.{OneType};
-ghost use Rattle.state.specs.Words.{wordPlace};
-ghost use Rattle.state.specs.Represents.{lent};
+ghost use Rattle.walk.specs.Words.{wordPlace};
+ghost use Rattle.walk.specs.Moments.{given, before, after};
 ghost use Rattle.convert.specs.Post.{Ready};
 ghost use Rattle.divergence.specs.InnerStatements.{InnerOf};
-ghost use Rattle.statement.specs.Post.{StatementCheckedAt, CheckedForAny, BlockCheckedAt, LocalDeclared, ReturnedNothing, ConditionCheckedAt, OwnPartsChecked};
+ghost use Rattle.statement.specs.Post.{LocalDeclared, ReturnedNothing, ConditionChecked, NodeCheckedForAny};
+ghost use Rattle.statement.specs.Post.{NodeChecked, NodesChecked, OwnPartsChecked};
 
-// Bytes of a statement before its parts, and of a declaration.
-const PARTS: usize = 16;
+// What stays the same in a function: the numbers of the built-in names, and the row of the type that it returns.
+pub struct Function {
+    pub names: BuiltIns,
+    pub returned: u32,
+}
 
-const NAMED_PARTS: usize = 20;
-
-// Enters a local of the type row `ty`, unless there is one of that name already. Its value is compared with `ty` either way.
+// Enters a local of the type row `ty`, unless there is one of that name already. Its value is compared with `ty`
+// either way.
 fn declare_local(
     s: &[u8],
     at: usize,
@@ -42,17 +62,17 @@ fn declare_local(
     errors: &mut [u32],
     state: State,
 ) -> Typed
-    requires { ⌜ (at + 20 ≤ length (now s)) × (wordPlace (wordAt (now s) (at + 16)) 2 < length (now work)) ⌝ }
-    ensures { λ r. ⌜ LocalDeclared (now (s .entry)) at ty (now (work .entry)) (now (errors .entry)) state (now (work .exit)) (now (errors .exit)) r ⌝ }
+    requires { ⌜ (fieldEnd at ≤ length (now s)) × (wordPlace (wordAt (now s) (headEnd at)) 2 < length (now work)) ⌝ }
+    ensures { λ r. ⌜ LocalDeclared (old s) at ty (old work) (old errors) state (final work) (final errors) r ⌝ }
 {
-    let name = word(s, at + PARTS);
-    let earlier = state::word_of(work, name, state::LOCAL);
+    let name = word(s, at + HEAD_END);
+    let earlier = walk::word_of(work, name, walk::LOCAL);
     if 0 < earlier {
         let error = error_at(s, at, LOCAL_REDEFINED, name, 0, 0);
-        let next = state::report(errors, state, error);
+        let next = walk::report(errors, state, error);
         return Typed { ty, state: next };
     }
-    state::set_word(work, name, state::LOCAL, ty);
+    walk::set_word(work, name, walk::LOCAL, ty);
     Typed { ty, state }
 }
 
@@ -61,49 +81,61 @@ fn variable_declaration(
     s: &[u8],
     names: BuiltIns,
     work: &mut [u32],
-    at: usize,
-    depth: usize,
+    node: Node,
     output: &mut [u8],
     errors: &mut [u32],
     rows: &mut [u32],
-    buckets: &mut [u16; lookup::LENGTH],
+    index: &mut [u16; row_index::LENGTH],
     state: State,
 ) -> State
-    requires { ⌜ FineRecord (now s) depth at (length (now s)) aStatement × (kindAt (now s) at ≡ 66) ⌝ }
-    requires { ⌜ Ready (now s) (lent (now work) (now output) (now errors) (now rows) (now buckets) state) ⌝ }
-    ensures { λ r. ⌜ CheckedForAny (now (s .entry)) names depth at (lent (now (work .entry)) (now (output .entry)) (now (errors .entry)) (now (rows .entry)) (now (buckets .entry)) state) (lent (now (work .exit)) (now (output .exit)) (now (errors .exit)) (now (rows .exit)) (now (buckets .exit)) r) ⌝ }
+    requires { ⌜ FineNode (now s) node aStatement × (kindAt (now s) (node .at) ≡ kinds.variableDeclaration) ⌝ }
+    requires { ⌜ Ready (now s) (given work output errors rows index state) ⌝ }
+    ensures { λ r. ⌜ NodeCheckedForAny (old s) names node
+        (before work output errors rows index state)
+        (after work output errors rows index r) ⌝ }
 {
-    let start = at + NAMED_PARTS;
-    let converted = convert_node_type(
-        s,
-        Pass { names, fill: true },
-        work,
-        start,
-        depth - 1,
-        output,
-        errors,
-        rows,
-        buckets,
-        state,
-    );
-    let local = declare_local(s, at, converted.ty, work, errors, converted.state);
-    let stop = at + length_at(s, at);
-    let value = start + length_at(s, start);
-    initial::type_check_initial(
-        s,
-        names,
-        work,
-        value,
-        stop,
-        depth - 1,
-        true,
-        local.ty,
-        output,
-        errors,
-        rows,
-        buckets,
-        local.state,
-    )
+    let at = node.at + FIELD_END;
+    let depth = node.depth - 1;
+    let first = Node { at, depth };
+    let pass = Pass { names, fill: true };
+    let converted = convert_node_type(s, pass, work, first, output, errors, rows, index, state);
+    let local = declare_local(s, node.at, converted.ty, work, errors, converted.state);
+    let end = node.at + length_at(s, node.at);
+    let from = at + length_at(s, at);
+    let value = Value {
+        from,
+        end,
+        depth,
+        ty: local.ty,
+        compare: true,
+    };
+    let next = local.state;
+    type_check_initial(s, names, work, value, output, errors, rows, index, next)
+}
+
+// An expression as a statement.
+fn expression_statement(
+    s: &[u8],
+    names: BuiltIns,
+    work: &[u32],
+    node: Node,
+    output: &mut [u8],
+    errors: &mut [u32],
+    rows: &mut [u32],
+    index: &mut [u16; row_index::LENGTH],
+    state: State,
+) -> State
+    requires { ⌜ FineNode (now s) node aStatement × (kindAt (now s) (node .at) ≡ kinds.expressionStatement) ⌝ }
+    requires { ⌜ Ready (now s) (given work output errors rows index state) ⌝ }
+    ensures { λ r. ⌜ NodeCheckedForAny (old s) names node
+        (before work output errors rows index state)
+        (after work output errors rows index r) ⌝ }
+{
+    let at = node.at + HEAD_END;
+    let depth = node.depth - 1;
+    let first = Node { at, depth };
+    let value = type_check_expression(s, names, work, first, output, errors, rows, index, state);
+    value.state
 }
 
 // An assignment: its target, its value, and the one compared with the other.
@@ -111,45 +143,28 @@ fn assignment(
     s: &[u8],
     names: BuiltIns,
     work: &[u32],
-    at: usize,
-    depth: usize,
+    node: Node,
     output: &mut [u8],
     errors: &mut [u32],
     rows: &mut [u32],
-    buckets: &mut [u16; lookup::LENGTH],
+    index: &mut [u16; row_index::LENGTH],
     state: State,
 ) -> State
-    requires { ⌜ FineRecord (now s) depth at (length (now s)) aStatement × (kindAt (now s) at ≡ 67) ⌝ }
-    requires { ⌜ Ready (now s) (lent (now work) (now output) (now errors) (now rows) (now buckets) state) ⌝ }
-    ensures { λ r. ⌜ CheckedForAny (now (s .entry)) names depth at (lent (now (work .entry)) (now (output .entry)) (now (errors .entry)) (now (rows .entry)) (now (buckets .entry)) state) (lent (now (work .entry)) (now (output .exit)) (now (errors .exit)) (now (rows .exit)) (now (buckets .exit)) r) ⌝ }
+    requires { ⌜ FineNode (now s) node aStatement × (kindAt (now s) (node .at) ≡ kinds.assignment) ⌝ }
+    requires { ⌜ Ready (now s) (given work output errors rows index state) ⌝ }
+    ensures { λ r. ⌜ NodeCheckedForAny (old s) names node
+        (before work output errors rows index state)
+        (after work output errors rows index r) ⌝ }
 {
-    let first = at + PARTS;
-    let target = type_check_expression(
-        s,
-        names,
-        work,
-        first,
-        depth - 1,
-        output,
-        errors,
-        rows,
-        buckets,
-        state,
-    );
-    let second = first + length_at(s, first);
-    let value = type_check_expression(
-        s,
-        names,
-        work,
-        second,
-        depth - 1,
-        output,
-        errors,
-        rows,
-        buckets,
-        target.state,
-    );
-    check_types_are_assignable(s, at, target.ty, value.ty, errors, rows, value.state)
+    let at = node.at + HEAD_END;
+    let depth = node.depth - 1;
+    let first = Node { at, depth };
+    let target = type_check_expression(s, names, work, first, output, errors, rows, index, state);
+    let middle = target.state;
+    let place = at + length_at(s, at);
+    let second = Node { at: place, depth };
+    let value = type_check_expression(s, names, work, second, output, errors, rows, index, middle);
+    check_types_are_assignable(s, node.at, target.ty, value.ty, errors, rows, value.state)
 }
 
 // An assignment of a compound: its target, then the compound for that.
@@ -157,48 +172,32 @@ fn compound_assignment(
     s: &[u8],
     names: BuiltIns,
     work: &[u32],
-    at: usize,
-    depth: usize,
+    node: Node,
     output: &mut [u8],
     errors: &mut [u32],
     rows: &mut [u32],
-    buckets: &mut [u16; lookup::LENGTH],
+    index: &mut [u16; row_index::LENGTH],
     state: State,
 ) -> State
-    requires { ⌜ FineRecord (now s) depth at (length (now s)) aStatement × (kindAt (now s) at ≡ 68) ⌝ }
-    requires { ⌜ Ready (now s) (lent (now work) (now output) (now errors) (now rows) (now buckets) state) ⌝ }
-    ensures { λ r. ⌜ CheckedForAny (now (s .entry)) names depth at (lent (now (work .entry)) (now (output .entry)) (now (errors .entry)) (now (rows .entry)) (now (buckets .entry)) state) (lent (now (work .entry)) (now (output .exit)) (now (errors .exit)) (now (rows .exit)) (now (buckets .exit)) r) ⌝ }
+    requires { ⌜ FineNode (now s) node aStatement × (kindAt (now s) (node .at) ≡ kinds.compoundAssignment) ⌝ }
+    requires { ⌜ Ready (now s) (given work output errors rows index state) ⌝ }
+    ensures { λ r. ⌜ NodeCheckedForAny (old s) names node
+        (before work output errors rows index state)
+        (after work output errors rows index r) ⌝ }
 {
-    let first = at + PARTS;
-    let target = type_check_expression(
-        s,
-        names,
-        work,
-        first,
-        depth - 1,
-        output,
-        errors,
-        rows,
-        buckets,
-        state,
-    );
-    let second = first + length_at(s, first);
-    compound::type_check_compound_assignment(
-        s,
-        names,
-        work,
-        second,
-        depth - 1,
-        target.ty,
-        output,
-        errors,
-        rows,
-        buckets,
-        target.state,
-    )
+    let at = node.at + HEAD_END;
+    let depth = node.depth - 1;
+    let first = Node { at, depth };
+    let typed = type_check_expression(s, names, work, first, output, errors, rows, index, state);
+    let ty = typed.ty;
+    let next = typed.state;
+    let place = at + length_at(s, at);
+    let node = Node { at: place, depth };
+    type_check_compound_assignment(s, names, work, node, ty, output, errors, rows, index, next)
 }
 
-// A return without a value, where the type row `returned` is to be returned: permitted for void itself, not for an alias of it.
+// A return without a value, where the type row `returned` is to be returned: permitted for void itself, not for an
+// alias of it.
 fn return_without_value(
     s: &[u8],
     at: usize,
@@ -207,278 +206,165 @@ fn return_without_value(
     rows: &[u32],
     state: State,
 ) -> State
-    requires { ⌜ (at + 16 ≤ length (now s)) × OneType (now rows) (state .rows) returned ⌝ }
-    ensures { λ r. ⌜ ReturnedNothing (now (s .entry)) at returned (now (rows .entry)) (now (errors .entry)) state (now (errors .exit)) r ⌝ }
+    requires { ⌜ (headEnd at ≤ length (now s)) × OneType (now rows) (state .rows) returned ⌝ }
+    ensures { λ r. ⌜ ReturnedNothing (old s) at returned (old rows) (old errors) state (final errors) r ⌝ }
 {
+    let kind = RETURN_NEEDS_VALUE;
     let holds = types::kind(rows, state.rows, returned) == types::VOID;
-    rules::report_unless(
-        holds,
-        s,
-        at,
-        RETURN_NEEDS_VALUE,
-        returned,
-        0,
-        0,
-        errors,
-        state,
-    )
+    report_unless(holds, s, at, kind, returned, 0, 0, errors, state)
 }
 
-// A return: with a value of the type row `returned`, or without one.
+// A return: with a value of the type that the function returns, or without one.
 fn return_statement(
     s: &[u8],
-    names: BuiltIns,
+    function: Function,
     work: &[u32],
-    at: usize,
-    depth: usize,
-    returned: u32,
+    node: Node,
     output: &mut [u8],
     errors: &mut [u32],
     rows: &mut [u32],
-    buckets: &mut [u16; lookup::LENGTH],
+    index: &mut [u16; row_index::LENGTH],
     state: State,
 ) -> State
-    requires { ⌜ FineRecord (now s) depth at (length (now s)) aStatement × (kindAt (now s) at ≡ 69) ⌝ }
-    requires { ⌜ Ready (now s) (lent (now work) (now output) (now errors) (now rows) (now buckets) state) × OneType (now rows) (state .rows) returned ⌝ }
-    ensures { λ r. ⌜ StatementCheckedAt (now (s .entry)) names depth at returned (lent (now (work .entry)) (now (output .entry)) (now (errors .entry)) (now (rows .entry)) (now (buckets .entry)) state) (lent (now (work .entry)) (now (output .exit)) (now (errors .exit)) (now (rows .exit)) (now (buckets .exit)) r) ⌝ }
+    requires { ⌜ FineNode (now s) node aStatement × (kindAt (now s) (node .at) ≡ kinds.return) ⌝ }
+    requires { ⌜ Ready (now s) (given work output errors rows index state) ⌝ }
+    requires { ⌜ OneType (now rows) (state .rows) (function .returned) ⌝ }
+    ensures { λ r. ⌜ NodeChecked (old s) function node
+        (before work output errors rows index state)
+        (after work output errors rows index r) ⌝ }
 {
-    if length_at(s, at) <= PARTS {
-        return return_without_value(s, at, returned, errors, rows, state);
+    let names = function.names;
+    let returned = function.returned;
+    if length_at(s, node.at) <= HEAD_END {
+        return return_without_value(s, node.at, returned, errors, rows, state);
     }
-    let value = type_check_expression(
-        s,
-        names,
-        work,
-        at + PARTS,
-        depth - 1,
-        output,
-        errors,
-        rows,
-        buckets,
-        state,
-    );
-    check_types_are_assignable(s, at, returned, value.ty, errors, rows, value.state)
+    let at = node.at + HEAD_END;
+    let depth = node.depth - 1;
+    let first = Node { at, depth };
+    let value = type_check_expression(s, names, work, first, output, errors, rows, index, state);
+    check_types_are_assignable(s, node.at, returned, value.ty, errors, rows, value.state)
 }
 
-// The condition of the while or the if at `at`.
+// The condition of a while or an if.
 fn condition(
     s: &[u8],
     names: BuiltIns,
     work: &[u32],
-    at: usize,
-    depth: usize,
+    node: Node,
     output: &mut [u8],
     errors: &mut [u32],
     rows: &mut [u32],
-    buckets: &mut [u16; lookup::LENGTH],
+    index: &mut [u16; row_index::LENGTH],
     state: State,
 ) -> State
-    requires { ⌜ FineRecord (now s) (depth - 1) (at + 16) (length (now s)) anExpression ⌝ }
-    requires { ⌜ Ready (now s) (lent (now work) (now output) (now errors) (now rows) (now buckets) state) ⌝ }
-    ensures { λ r. ⌜ ConditionCheckedAt (now (s .entry)) names depth at (lent (now (work .entry)) (now (output .entry)) (now (errors .entry)) (now (rows .entry)) (now (buckets .entry)) state) (lent (now (work .entry)) (now (output .exit)) (now (errors .exit)) (now (rows .exit)) (now (buckets .exit)) r) ⌝ }
+    requires { ⌜ FineRecord (now s) (node .depth - 1) (headEnd (node .at)) (length (now s)) anExpression ⌝ }
+    requires { ⌜ Ready (now s) (given work output errors rows index state) ⌝ }
+    ensures { λ r. ⌜ ConditionChecked (old s) names node
+        (before work output errors rows index state)
+        (after work output errors rows index r) ⌝ }
 {
-    let value = type_check_expression(
-        s,
-        names,
-        work,
-        at + PARTS,
-        depth - 1,
-        output,
-        errors,
-        rows,
-        buckets,
-        state,
-    );
-    check_types_are_assignable(s, at, types::BOOL, value.ty, errors, rows, value.state)
+    let at = node.at + HEAD_END;
+    let depth = node.depth - 1;
+    let first = Node { at, depth };
+    let value = type_check_expression(s, names, work, first, output, errors, rows, index, state);
+    check_types_are_assignable(s, node.at, types::BOOL, value.ty, errors, rows, value.state)
 }
 
-// What the statement at `at` has besides the statements that it holds, which come after it.
+// What a statement has besides the statements that it holds, which come after it.
 fn own_parts(
     s: &[u8],
-    names: BuiltIns,
+    function: Function,
     work: &mut [u32],
-    at: usize,
-    depth: usize,
-    inner: Inner,
-    returned: u32,
+    inner: Entered,
     output: &mut [u8],
     errors: &mut [u32],
     rows: &mut [u32],
-    buckets: &mut [u16; lookup::LENGTH],
+    index: &mut [u16; row_index::LENGTH],
     state: State,
 ) -> State
-    requires { ⌜ FineRecord (now s) depth at (length (now s)) aStatement × InnerOf (now s) depth at inner ⌝ }
-    requires { ⌜ Ready (now s) (lent (now work) (now output) (now errors) (now rows) (now buckets) state) × OneType (now rows) (state .rows) returned ⌝ }
-    ensures { λ r. ⌜ OwnPartsChecked (now (s .entry)) names depth at inner returned (lent (now (work .entry)) (now (output .entry)) (now (errors .entry)) (now (rows .entry)) (now (buckets .entry)) state) (lent (now (work .exit)) (now (output .exit)) (now (errors .exit)) (now (rows .exit)) (now (buckets .exit)) r) ⌝ }
+    requires { ⌜ FineNode (now s) (nodeOf inner) aStatement × InnerOf (now s) (nodeOf inner) inner ⌝ }
+    requires { ⌜ Ready (now s) (given work output errors rows index state) ⌝ }
+    requires { ⌜ OneType (now rows) (state .rows) (function .returned) ⌝ }
+    ensures { λ r. ⌜ OwnPartsChecked (old s) function inner
+        (before work output errors rows index state)
+        (after work output errors rows index r) ⌝ }
 {
+    let names = function.names;
+    let at = inner.at;
+    let depth = inner.depth;
+    let node = Node { at, depth };
     let kind = inner.kind;
     match kind {
-        65 => {
-            let value = type_check_expression(
-                s,
-                names,
-                work,
-                at + PARTS,
-                depth - 1,
-                output,
-                errors,
-                rows,
-                buckets,
-                state,
-            );
-            value.state
+        EXPRESSION_STATEMENT => {
+            expression_statement(s, names, work, node, output, errors, rows, index, state)
         }
-        66 => variable_declaration(
-            s,
-            names,
-            work,
-            at,
-            depth,
-            output,
-            errors,
-            rows,
-            buckets,
-            state,
-        ),
-        67 => assignment(
-            s,
-            names,
-            work,
-            at,
-            depth,
-            output,
-            errors,
-            rows,
-            buckets,
-            state,
-        ),
-        68 => compound_assignment(
-            s,
-            names,
-            work,
-            at,
-            depth,
-            output,
-            errors,
-            rows,
-            buckets,
-            state,
-        ),
-        69 => return_statement(
-            s,
-            names,
-            work,
-            at,
-            depth,
-            returned,
-            output,
-            errors,
-            rows,
-            buckets,
-            state,
-        ),
-        71 | 73 => condition(
-            s,
-            names,
-            work,
-            at,
-            depth,
-            output,
-            errors,
-            rows,
-            buckets,
-            state,
-        ),
+        VARIABLE_DECLARATION => {
+            variable_declaration(s, names, work, node, output, errors, rows, index, state)
+        }
+        ASSIGNMENT => assignment(s, names, work, node, output, errors, rows, index, state),
+        COMPOUND_ASSIGNMENT => {
+            compound_assignment(s, names, work, node, output, errors, rows, index, state)
+        }
+        RETURN => return_statement(s, function, work, node, output, errors, rows, index, state),
+        WHILE | IF_STATEMENT => condition(s, names, work, node, output, errors, rows, index, state),
         _ => state,
     }
 }
 
-// The S record at `at`, with so many levels left, in a function that returns the type row `returned`.
+// An S record, in a function.
 pub fn type_check_statement(
     s: &[u8],
-    names: BuiltIns,
+    function: Function,
     work: &mut [u32],
-    at: usize,
-    depth: usize,
-    returned: u32,
+    node: Node,
     output: &mut [u8],
     errors: &mut [u32],
     rows: &mut [u32],
-    buckets: &mut [u16; lookup::LENGTH],
+    index: &mut [u16; row_index::LENGTH],
     state: State,
 ) -> State
-    requires { ⌜ FineRecord (now s) depth at (length (now s)) aStatement ⌝ }
-    requires { ⌜ Ready (now s) (lent (now work) (now output) (now errors) (now rows) (now buckets) state) × OneType (now rows) (state .rows) returned ⌝ }
-    ensures { λ r. ⌜ StatementCheckedAt (now (s .entry)) names depth at returned (lent (now (work .entry)) (now (output .entry)) (now (errors .entry)) (now (rows .entry)) (now (buckets .entry)) state) (lent (now (work .exit)) (now (output .exit)) (now (errors .exit)) (now (rows .exit)) (now (buckets .exit)) r) ⌝ }
+    requires { ⌜ FineNode (now s) node aStatement ⌝ }
+    requires { ⌜ Ready (now s) (given work output errors rows index state) ⌝ }
+    requires { ⌜ OneType (now rows) (state .rows) (function .returned) ⌝ }
+    ensures { λ r. ⌜ NodeChecked (old s) function node
+        (before work output errors rows index state)
+        (after work output errors rows index r) ⌝ }
 {
-    let inner = inner_statements(s, at, depth);
-    let start = inner.start;
-    let stop = inner.stop;
-    let next = own_parts(
-        s,
-        names,
-        work,
-        at,
-        depth,
-        inner,
-        returned,
-        output,
-        errors,
-        rows,
-        buckets,
-        state,
-    );
-    type_check_block(
-        s,
-        names,
-        work,
-        start,
-        stop,
-        depth - 1,
-        returned,
-        output,
-        errors,
-        rows,
-        buckets,
-        next,
-    )
+    let inner = inner_statements(s, node);
+    let next = own_parts(s, function, work, inner, output, errors, rows, index, state);
+    let from = inner.start;
+    let end = inner.stop;
+    let depth = node.depth - 1;
+    let list = Nodes { from, end, depth };
+    type_check_block(s, function, work, list, output, errors, rows, index, next)
 }
 
-// The statements from `from` to `end`.
+// Some statements, one after the other.
 fn type_check_block(
     s: &[u8],
-    names: BuiltIns,
+    function: Function,
     work: &mut [u32],
-    from: usize,
-    end: usize,
-    depth: usize,
-    returned: u32,
+    list: Nodes,
     output: &mut [u8],
     errors: &mut [u32],
     rows: &mut [u32],
-    buckets: &mut [u16; lookup::LENGTH],
+    index: &mut [u16; row_index::LENGTH],
     state: State,
 ) -> State
-    requires { ⌜ FineList (now s) depth from end Statements ⌝ }
-    requires { ⌜ Ready (now s) (lent (now work) (now output) (now errors) (now rows) (now buckets) state) × OneType (now rows) (state .rows) returned ⌝ }
-    ensures { λ r. ⌜ BlockCheckedAt (now (s .entry)) names depth from end returned (lent (now (work .entry)) (now (output .entry)) (now (errors .entry)) (now (rows .entry)) (now (buckets .entry)) state) (lent (now (work .exit)) (now (output .exit)) (now (errors .exit)) (now (rows .exit)) (now (buckets .exit)) r) ⌝ }
+    requires { ⌜ FineNodes (now s) list Statements ⌝ }
+    requires { ⌜ Ready (now s) (given work output errors rows index state) ⌝ }
+    requires { ⌜ OneType (now rows) (state .rows) (function .returned) ⌝ }
+    ensures { λ r. ⌜ NodesChecked (old s) function list
+        (before work output errors rows index state)
+        (after work output errors rows index r) ⌝ }
 {
-    let mut at = from;
+    let end = list.end;
+    let depth = list.depth;
+    let mut at = list.from;
     let mut next = state;
     while at < end {
-        next = type_check_statement(
-            s,
-            names,
-            work,
-            at,
-            depth,
-            returned,
-            output,
-            errors,
-            rows,
-            buckets,
-            next,
-        );
+        let node = Node { at, depth };
+        next = type_check_statement(s, function, work, node, output, errors, rows, index, next);
         at = at + length_at(s, at);
     }
     next

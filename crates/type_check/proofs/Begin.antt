@@ -1,19 +1,16 @@
 -- The check begins with working words that are 0 and a copy of the input. Assumes nothing.
-use Prim.Native.Nat.{ℕ, zero, suc, _+_, _*_, _≤_, _<_}
-use mathlib.Core.Path.{_≡_, refl, sym, _∙_, ap, subst}
-use mathlib.Core.Bool.{true, false}
-use mathlib.Core.List.{List, [], _∷_, _++_}
-use mathlib.Core.Option.{none}
-use native.Mathlib.Omega.{arith}
-use lib.ListN.{length, getD, replicate}
-use Rattle.node.specs.Names.{namesOf, nameCount, builtIns, repeatedName}
+use Prim.Native.Nat.{ℕ, zero, suc}
+use mathlib.Core.Path.{_≡_, refl}
+use mathlib.Core.List.{List}
+use lib.ListN.{getD, replicate}
+use Rattle.node.specs.Names.{builtIns, repeatedName}
 use Rattle.node.specs.declared.names.Repeated.the-variants.{Nowhere}
-use Rattle.meaning.specs.Context.{context, blank, noTypes}
+use Rattle.meaning.specs.Context.{context, blank}
 use Rattle.meaning.specs.Module.{emptyContext}
-use Rattle.meaning.specs.Promise.{workWidth, builtInsOf}
-use Rattle.state.specs.declared.State.{State}
-use Rattle.state.specs.Words.{wordPlace, mapAt}
-use Rattle.state.specs.Represents.{Lent, lent, Holds, Scope}
+use Rattle.meaning.specs.Promise.{builtInsOf}
+use Rattle.walk.specs.declared.State.{State}
+use Rattle.walk.specs.Words.{wordPlace, mapAt}
+use Rattle.walk.specs.Represents.{lent, Holds, Scope}
 use Rattle.convert.specs.Convert.{Resolves}
 use Rattle.type_check.proofs.BuiltInNames.{built-ins}
 
@@ -23,9 +20,9 @@ zeros zero i = refl
 zeros (suc n) zero = refl
 zeros (suc n) (suc i) = zeros n i
 
-module _ (input work output errors rows : List ℕ) {buckets : List ℕ} (st : State) (zero-words : (i : ℕ) → getD work i 0 ≡ 0) where
+module _ (input work output errors rows : List ℕ) {index : List ℕ} (st : State) (zero-words : (i : ℕ) → getD work i 0 ≡ 0) where
   -- hold no type for any name
-  no-words : Scope (lent work output errors rows buckets st) (context (emptyContext (builtInsOf input)) blank)
+  no-words : Scope (lent work output errors rows index st) (context (emptyContext (builtInsOf input)) blank)
   unfolding Holds
   no-words = record { holds = λ f name which low fits. held name which }
     where
@@ -37,5 +34,5 @@ module _ (input work output errors rows : List ℕ) {buckets : List ℕ} (st : S
       held name (suc (suc (suc (suc n)))) = zero-words (wordPlace name (suc (suc (suc (suc n)))))
 
   -- so they hold the context that pass 1 begins with
-  pub empty-words : repeatedName input ≡ Nowhere → Resolves input (builtIns input) (lent work output errors rows buckets st) (context (emptyContext (builtInsOf input)) blank)
+  pub empty-words : repeatedName input ≡ Nowhere → Resolves input (builtIns input) (lent work output errors rows index st) (context (emptyContext (builtInsOf input)) blank)
   empty-words once = record { scope = no-words; builtIns = λ name known. built-ins input once name known }

@@ -3,16 +3,16 @@ use Prim.Native.Nat.{ℕ, _<_}
 use mathlib.Core.Path.{_≡_, refl, sym, _∙_, ap, subst}
 use mathlib.Core.Bool.{Bool, true, false, cond}
 use mathlib.Core.List.{List, [], _∷_}
-use mathlib.Core.Option.{Option, none, some}
+use mathlib.Core.Option.{none, some}
 use lib.Dec.{eqb}
 use lib.ListN.{getD}
 use borrow.Author.Tests.{eqb-true, eq-eqb}
-use Rattle.types.specs.Ty.{Ty, u16, i16, bool, string}
+use Rattle.types.specs.Ty.{u16, i16, bool, string}
 use Rattle.node.specs.Names.{namesOf, nameCount, sameBytes, numberOf, builtIns, repeatedName}
 use Rattle.node.specs.declared.names.Repeated.the-variants.{Nowhere}
 use Rattle.node.proofs.NameLaws.{same-refl, same-true}
 use Rattle.node.proofs.NumberLaws.{named, number-of-name}
-use Rattle.meaning.specs.Promise.{primitiveType, builtInTypes}
+use Rattle.meaning.specs.Promise.{builtInTypes}
 use Rattle.convert.specs.Convert.{primitiveOf}
 
 module _ (s : List ℕ) (once : repeatedName s ≡ Nowhere) (i : ℕ) (known : i < nameCount s) where

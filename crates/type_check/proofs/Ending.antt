@@ -1,44 +1,44 @@
 -- From both passes to the promise: the counts, the rows, the errors and the output. Assumes nothing.
-use Prim.Native.Nat.{ℕ, _+_, _-_, _*_, _/_, _^_, _≤_, _<_}
+use Prim.Native.Nat.{ℕ, _+_, _-_, _*_, _≤_, _<_}
 use mathlib.Core.Path.{_≡_, refl, sym, _∙_, ap, subst}
-use mathlib.Core.Bool.{Bool, true, false}
-use mathlib.Core.List.{List, [], _∷_, _++_}
+use mathlib.Core.Bool.{true, false}
+use mathlib.Core.List.{List, _++_}
 use native.Mathlib.Omega.{arith}
 use lib.Dec.{ltb}
 use lib.ListN.{length, getD, drop, replicate, length-drop, List·getD-append}
 use lib.Seq.{getD-drop, ext-getD}
 use borrow.Author.Tests.{ltb-false, lt-ltb}
-use Rattle.types.specs.Ty.{Ty, same, member, distinctCount, fixedTypes}
+use Rattle.types.specs.Ty.{same, member, distinctCount}
 use Rattle.types.specs.Table.{rowWidth, Table}
 use Rattle.types.specs.Post.{FixedStored}
 use Rattle.fallible.specs.Errors.{errorWidth, errorList, room}
 use Rattle.shape.specs.Shape.{aNames}
 use Rattle.shape.specs.declared.Holds.the-variants.{Items}
-use Rattle.node.specs.Bytes.{byteAt, wordAt}
-use Rattle.node.specs.Names.{namesOf, nameCount, builtIns}
+use Rattle.node.specs.Bytes.{wordAt}
+use Rattle.node.specs.Names.{nameCount, builtIns}
 use Rattle.node.specs.Layout.{maxBytes}
 use Rattle.node.specs.Tree.{Item}
 use Rattle.node.specs.Fine.{FineList}
 use Rattle.node.specs.declared.names.BuiltIns.{BuiltIns}
 use Rattle.node.proofs.Open.{module-parts, opened}
-use Rattle.meaning.specs.Context.{context, blank, each}
-use Rattle.meaning.specs.Module.{emptyContext, neededTypes}
-use Rattle.meaning.specs.Promise.{workWidth, builtInsOf, contextOf, errorsOf, typesOf, Counts, countsOf, Buffers, lengthsOf, Accepted, cleared}
-use Rattle.state.specs.Effect.{Effect, nothing, _then_, needed}
-use Rattle.state.specs.declared.State.{State}
-use Rattle.lookup.specs.Buckets.{Indexed}
-use Rattle.state.specs.Represents.{Lent, lent, Good, Told, Stands, Represents}
-use Rattle.state.proofs.Ends.{begin, begin-good, end-rows, end-full, end-crowded, end-errors, end-listed, end-operands, end-past}
-use Rattle.state.proofs.Laws.{needed-within}
-use Rattle.state.proofs.Sets.{both, count-within}
-use Rattle.places.specs.Absolute.{itemsAt}
-use Rattle.places.proofs.Filled.{Filled, filled}
+use Rattle.meaning.specs.Context.{each}
+use Rattle.meaning.specs.Module.{neededTypes}
+use Rattle.meaning.specs.Promise.{workWidth, contextOf, errorsOf, typesOf, countsOf}
+use Rattle.walk.specs.Effect.{Effect, nothing, _then_, needed}
+use Rattle.walk.specs.declared.State.{State}
+use Rattle.row_index.specs.Index.{Indexed}
+use Rattle.walk.specs.Represents.{Lent, lent, Told, Represents}
+use Rattle.walk.proofs.Ends.{begin, begin-good, end-rows, end-full, end-crowded, end-errors, end-listed, end-operands, end-past}
+use Rattle.walk.proofs.Laws.{needed-within}
+use Rattle.walk.proofs.Sets.{both, count-within}
+use Rattle.slot_places.specs.Absolute.{itemsAt}
+use Rattle.slot_places.proofs.Filled.{Filled, filled}
 use Rattle.convert.specs.Post.{Ready}
 use Rattle.declare.specs.Post.{AllDeclared}
 use Rattle.items.specs.Post.{ItemsChecked}
 use Rattle.type_check.specs.Post.{buffers, Passed, Results, BothPasses}
 use Rattle.type_check.proofs.Begin.{zeros, empty-words}
-use Rattle.type_check.proofs.Whole.{moduleEffect, moduleSteps, both-passes}
+use Rattle.type_check.proofs.Whole.{moduleEffect, both-passes}
 
 -- Lists that are the same from a place on
 past-same : (n : ℕ) (a b : List ℕ) → length a ≡ length b → ((i : ℕ) → n ≤ i → getD a i 0 ≡ getD b i 0) → drop n a ≡ drop n b
@@ -50,13 +50,13 @@ past-same n a b l f =
 nothing-then : (e : Effect) → nothing then e ≡ e
 nothing-then e = let n : 0 + e .steps ≡ e .steps = omega arith in λ i. record { stores = e .stores; errors = e .errors; met = e .met; steps = n i }
 
-module _ {input output rows rows₇ buckets errors work output′ rows′ buckets′ errors′ work′ : List ℕ} {B : Lent} {r : State} {len : ℕ} {names : BuiltIns}
+module _ {input output rows rows₇ index errors work output′ rows′ index′ errors′ work′ : List ℕ} {B : Lent} {r : State} {len : ℕ} {names : BuiltIns}
     (at : len ≡ wordAt input 16) (numbers : names ≡ builtIns input) (passed : Passed input (length output) (length work)) (copied : output ≡ input ++ drop (length input) output)
     (empty : work ≡ replicate (workWidth * nameCount input) 0) (fixed : FixedStored rows rows₇)
     (sameErrors : length errors′ ≡ length errors)
     (declared : AllDeclared input names (itemsAt input 63 (16 + len) (length input)) (16 + len) (length input)
-    (lent work output errors rows₇ buckets (record { errors = 0; rows = 7; full = false })) B)
-    (checked : ItemsChecked input names (itemsAt input 63 (16 + len) (length input)) (16 + len) (length input) B (lent work′ output′ errors′ rows′ buckets′ r)) where
+    (lent work output errors rows₇ index (record { errors = 0; rows = 7; full = false })) B)
+    (checked : ItemsChecked input names (itemsAt input 63 (16 + len) (length input)) (16 + len) (length input) B (lent work′ output′ errors′ rows′ index′ r)) where
   few : length input ≤ maxBytes
   few = module-parts input (passed .layout) .few
 
@@ -64,14 +64,14 @@ module _ {input output rows rows₇ buckets errors work output′ rows′ bucket
   zero-words i = ap (λ (l : List ℕ). getD l i 0) empty ∙ zeros (workWidth * nameCount input) i
 
   -- The state stands for the whole effect
-  stands : Represents output errors (lent work′ output′ errors′ rows′ buckets′ r) (moduleEffect input)
+  stands : Represents output errors (lent work′ output′ errors′ rows′ index′ r) (moduleEffect input)
   stands =
       let start = empty-words input work output errors rows₇ (record { errors = 0; rows = 7; full = false }) zero-words (passed .names) in
       let place : (A : Lent) → AllDeclared input (names) (itemsAt input 63 (16 + len) (length input)) (16 + len) (length input) A B → AllDeclared input (builtIns input) (itemsAt input 63 (16 + wordAt input 16) (length input)) (16 + wordAt input 16) (length input) A B =
       (λ A d. subst (λ (k : ℕ). AllDeclared input (builtIns input) (itemsAt input 63 (16 + k) (length input)) (16 + k) (length input) A B) at (subst (λ (n : BuiltIns). AllDeclared input n (itemsAt input 63 (16 + len) (length input)) (16 + len) (length input) A B) numbers d)) in
-      let c = subst (λ (k : ℕ). ItemsChecked input (builtIns input) (itemsAt input 63 (16 + k) (length input)) (16 + k) (length input) B (lent work′ output′ errors′ rows′ buckets′ r)) at
-      (subst (λ (n : BuiltIns). ItemsChecked input n (itemsAt input 63 (16 + len) (length input)) (16 + len) (length input) B (lent work′ output′ errors′ rows′ buckets′ r)) numbers checked) in
-      subst (Represents output errors (lent work′ output′ errors′ rows′ buckets′ r)) (nothing-then (moduleEffect input))
+      let c = subst (λ (k : ℕ). ItemsChecked input (builtIns input) (itemsAt input 63 (16 + k) (length input)) (16 + k) (length input) B (lent work′ output′ errors′ rows′ index′ r)) at
+      (subst (λ (n : BuiltIns). ItemsChecked input n (itemsAt input 63 (16 + len) (length input)) (16 + len) (length input) B (lent work′ output′ errors′ rows′ index′ r)) numbers checked) in
+      subst (Represents output errors (lent work′ output′ errors′ rows′ index′ r)) (nothing-then (moduleEffect input))
       (both-passes input (passed .layout) start (place _ declared) c .does output errors nothing (begin fixed work output errors))
 
   table : Table rows′ (r .rows)
@@ -164,16 +164,16 @@ module _ {input : List ℕ} {outputs works : ℕ} (passed : Passed input outputs
   pub items-list : {len : ℕ} → len ≡ wordAt input 16 → FineList input 63 (16 + len) (length input) Items
   items-list e = subst (λ (k : ℕ). FineList input 63 (16 + k) (length input) Items) (sym e) (module-parts input (passed .layout) .items)
 
-pub first-ready : {input output rows rows₇ buckets errors work : List ℕ} → Passed input (length output) (length work) → work ≡ replicate (workWidth * nameCount input) 0 → FixedStored rows rows₇ → Indexed rows₇ 7 buckets → Ready input (lent work output errors rows₇ buckets (record { errors = 0; rows = 7; full = false }))
-first-ready {input} {output} {rows} {rows₇} {buckets} {errors} {work} passed e fixed indexed =
+pub first-ready : {input output rows rows₇ index errors work : List ℕ} → Passed input (length output) (length work) → work ≡ replicate (workWidth * nameCount input) 0 → FixedStored rows rows₇ → Indexed rows₇ 7 index → Ready input (lent work output errors rows₇ index (record { errors = 0; rows = 7; full = false }))
+first-ready {input} {output} {rows} {rows₇} {index} {errors} {work} passed e fixed indexed =
     record {
       good = begin-good fixed work output errors indexed (λ i. ap (λ (l : List ℕ). getD l i 0) e ∙ zeros (workWidth * nameCount input) i);
       long = passed .long;
       wide = passed .wide;
     }
 
-pub second-ready : {input output rows₇ buckets errors work : List ℕ} {items : List Item} {from : ℕ} {names : BuiltIns} {B : Lent} {st : State} → Passed input (length output) (length work)
-    → AllDeclared input names items from (length input) (lent work output errors rows₇ buckets st) B → Ready input B
+pub second-ready : {input output rows₇ index errors work : List ℕ} {items : List Item} {from : ℕ} {names : BuiltIns} {B : Lent} {st : State} → Passed input (length output) (length work)
+    → AllDeclared input names items from (length input) (lent work output errors rows₇ index st) B → Ready input B
 second-ready passed d =
     record {
       good = d .walked .grew .good;

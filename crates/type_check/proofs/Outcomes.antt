@@ -1,21 +1,19 @@
 -- Tests 6 and 7, and what is left in the words lent. Assumes nothing.
 use Prim.Native.Nat.{ℕ, _+_, _*_, _≤_, _<_}
-use mathlib.Core.Path.{_≡_, refl, sym, _∙_, ap, subst}
+use mathlib.Core.Path.{_≡_, sym, _∙_, ap, subst}
 use mathlib.Core.Bool.{Bool, true, false}
 use mathlib.Core.List.{List, [], _∷_, _++_, append-nil}
-use mathlib.Core.Logic.{⊎-elim}
 use native.Mathlib.Omega.{arith}
 use lib.Dec.{ltb}
 use lib.ListN.{length, drop, replicate, length-append, length-replicate, length-drop}
 use lib.Seq.{drop-length, drop-append-seam}
 use borrow.Author.Tests.{lt-ltb, le-ltb}
-use Rattle.types.specs.Table.{rowWidth}
-use Rattle.fallible.specs.Outcome.{Outcome, refused, accepted}
+use Rattle.fallible.specs.Outcome.{Outcome, refused, accepted, firstRefusing, outcomeAfter}
 use Rattle.fallible.specs.Errors.{errorWidth, room}
 use Rattle.node.specs.Names.{namesOf, nameCount}
-use Rattle.meaning.specs.Promise.{workWidth, Counts, countsOf, Buffers, lengthsOf, refuseIf, firstRefusal, cleared, wiped, Accepted}
-use Rattle.state.specs.declared.State.{State}
-use Rattle.type_check.specs.Post.{buffers, Passed, Results, BothPasses, lateOutcome, Ends}
+use Rattle.meaning.specs.Promise.{workWidth, Counts, countsOf, Buffers, lengthsOf, refuseIf, cleared, wiped, Accepted}
+use Rattle.walk.specs.declared.State.{State}
+use Rattle.type_check.specs.Post.{buffers, Passed, BothPasses, lateOutcome, Ends}
 use Rattle.type_check.proofs.Refusals.{names-counted}
 
 -- Lists of which the first are 0
@@ -142,7 +140,7 @@ module _ (output work : List ℕ) {input rows errors output₁ work₁ output₂
     pub no-rows : r .full ≡ true → Ends input (buffers output rows errors work) (buffers output₃ rows₃ errors₃ work₃) (refused 6 0)
     no-rows full =
         refused-with 6 (omega arith)
-        (ap (λ (b : Bool). firstRefusal (refuseIf b 6 ∷ refuseIf (ltb (length errors) (errorWidth * countsOf input .errors)) 7 ∷ []) (accepted (countsOf input))) (sym full ∙ sym (passes .full)))
+        (ap (λ (b : Bool). outcomeAfter (firstRefusing (refuseIf b 6 ∷ refuseIf (ltb (length errors) (errorWidth * countsOf input .errors)) 7 ∷ [])) (accepted (countsOf input))) (sym full ∙ sym (passes .full)))
 
     -- 7
     pub no-errors : r .full ≡ false → room errors₂ < r .errors → Ends input (buffers output rows errors work) (buffers output₃ rows₃ errors₃ work₃) (refused 7 0)
@@ -150,7 +148,7 @@ module _ (output work : List ℕ) {input rows errors output₁ work₁ output₂
         let more : room errors < r .errors = omega (arith, errors-long) in
         let a = sym fits ∙ sym (passes .full) in
         let b = sym (passes .crowded fits ∙ lt-ltb (room errors) (r .errors) more) in
-        refused-with 7 (omega arith) (λ i. firstRefusal (refuseIf (a i) 6 ∷ refuseIf (b i) 7 ∷ []) (accepted (countsOf input)))
+        refused-with 7 (omega arith) (λ i. outcomeAfter (firstRefusing (refuseIf (a i) 6 ∷ refuseIf (b i) 7 ∷ [])) (accepted (countsOf input)))
 
   -- Accepted
   pub counted : r .full ≡ false → r .errors ≤ room errors₂
@@ -161,7 +159,7 @@ module _ (output work : List ℕ) {input rows errors output₁ work₁ output₂
       let a = sym fits ∙ sym (passes .full) in
       let b = sym (passes .crowded fits ∙ le-ltb (room errors) (r .errors) few) in
       record {
-        answers = λ i. firstRefusal (refuseIf (a i) 6 ∷ refuseIf (b i) 7 ∷ []) (accepted (d .0 i));
+        answers = λ i. outcomeAfter (firstRefusing (refuseIf (a i) 6 ∷ refuseIf (b i) 7 ∷ [])) (accepted (d .0 i));
         lengths = λ i. record { output = long₂ i; rows = rows-long i; errors = errors-long i; work = work₃-long i };
         late = λ n p q. absurd (refused-never (sym q));
         emptied = λ n p q. absurd (refused-never (sym q));

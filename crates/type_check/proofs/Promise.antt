@@ -1,29 +1,35 @@
 -- The entry: tests 1 to 5, and the check on the working words of the names. Assumes nothing.
-use Prim.Native.Nat.{ℕ, _*_, _≤_, _<_}
+use Prim.Native.Nat.{ℕ, _*_, _≤_}
 use mathlib.Core.Path.{_≡_, refl, sym, _∙_, ap, subst}
-use mathlib.Core.Bool.{Bool, true, false, cond, _||_}
+use mathlib.Core.Bool.{Bool, true, false, _||_}
 use mathlib.Core.List.{List, [], _∷_, _++_}
 use mathlib.Core.Option.{Option, none, some}
 use native.Mathlib.Omega.{arith}
 use lib.Dec.{ltb}
 use lib.ListN.{length, take, drop, replicate}
 use lib.Seq.{length-take-le, length-front}
-use Rattle.fallible.specs.Outcome.{Outcome, refused, accepted}
+use Rattle.types.specs.Table.{rowWidth}
+use Rattle.fallible.specs.Errors.{errorWidth}
+use Rattle.fallible.specs.Outcome.{Outcome, refused, accepted, orNext, firstRefusing, outcomeAfter}
 use Rattle.node.specs.Names.{namesOf, nameCount, repeatedName, nameRefusal}
 use Rattle.node.specs.Layout.{layoutOf, layoutRefusal}
 use Rattle.node.specs.declared.layout.Layout.{Layout}
 use Rattle.node.specs.declared.layout.Layout.the-variants.{Good, TooLong, Fault, TooDeep}
 use Rattle.node.specs.declared.names.Repeated.{Repeated}
 use Rattle.node.specs.declared.names.Repeated.the-variants.{Nowhere, At}
-use Rattle.meaning.specs.Promise.{workWidth, Counts, countsOf, Buffers, Lengths, lengthsOf, refuseIf, outcomeAfter, firstRefusal, tests, answerOf, cleared, wiped, Accepted, Checked}
+use Rattle.meaning.specs.Promise.{workWidth, Counts, countsOf, Buffers, Lengths, lengthsOf, refuseIf, answerOf, cleared, Accepted, Checked}
 use Rattle.type_check.specs.declared.Refusal.{Refusal}
 use Rattle.type_check.specs.declared.Refusal.the-variants.{Never, Because}
-use Rattle.type_check.specs.Post.{buffers, refusalOf, orNext, loanRefusal, laterRefusal, earlyRefusal, lateOutcome, Passed, Ends}
+use Rattle.type_check.specs.Post.{buffers, refusalOf, loanRefusal, laterRefusal, earlyRefusal, lateOutcome, Passed, Ends}
 use Rattle.type_check.proofs.Refusals.{names-counted, all-passed}
-use Rattle.type_check.proofs.Outcomes.{cleared-all, refused-number, accepted-counts, refused-never}
+use Rattle.type_check.proofs.Outcomes.{cleared-all, refused-number, refused-never}
 
--- The first of two refusals decides
-after-both : (a b : Option (ℕ × ℕ)) (o : Outcome Counts) → outcomeAfter a (outcomeAfter b o) ≡ outcomeAfter (orNext a b) o
+-- The first of some refusals decides
+next-both : (a b c : Option (ℕ × ℕ)) → orNext a (orNext b c) ≡ orNext (orNext a b) c
+next-both none b c = refl
+next-both (some r) b c = refl
+
+after-both : (a b : Option (ℕ × ℕ)) (o : Outcome Counts) → outcomeAfter (orNext a b) o ≡ outcomeAfter a (outcomeAfter b o)
 after-both none b o = refl
 after-both (some r) b o = refl
 
@@ -34,7 +40,9 @@ answer-by input lent =
     let a = layoutRefusal (layoutOf input) in
     let b = nameRefusal (repeatedName input) in
     let c = loanRefusal input (lent .output) (lent .work) in
-    ap (outcomeAfter a) (after-both b c (lateOutcome input lent)) ∙ after-both a (orNext b c) (lateOutcome input lent)
+    let late = firstRefusing (refuseIf (ltb (lent .rows) (rowWidth * countsOf input .rows)) 6 ∷ refuseIf (ltb (lent .errors) (errorWidth * countsOf input .errors)) 7 ∷ []) in
+    let all = accepted (countsOf input) in
+    ap (λ x. outcomeAfter x all) (ap (orNext a) (next-both b c late) ∙ next-both a (orNext b c) late) ∙ after-both (orNext a (orNext b c)) late all
 
 -- Tests 1 to 5 refuse with 1 to 5
 abbrev Low : Option (ℕ × ℕ) → Type 0

@@ -1,13 +1,14 @@
 -- The tests that turn a module back before the check. Assumes nothing.
 use Prim.Native.Nat.{ℕ, _*_, _≤_, _<_}
 use mathlib.Core.Path.{_≡_, refl, sym, _∙_, ap}
-use mathlib.Core.Bool.{Bool, true, false, cond, _||_}
-use mathlib.Core.List.{List, []}
+use mathlib.Core.Bool.{Bool, true, false, _||_}
+use mathlib.Core.List.{List}
 use mathlib.Core.Option.{Option, none, some}
 use native.Mathlib.Omega.{arith}
 use lib.Dec.{ltb}
 use lib.ListN.{length, length-map}
 use borrow.Author.Tests.{lt-ltb, le-ltb, ltb-false}
+use Rattle.fallible.specs.Outcome.{orNext}
 use Rattle.node.specs.Names.{namesOf, nameCount, namePlaces, nameBytes, repeatedName, nameRefusal}
 use Rattle.node.specs.Layout.{layoutOf, layoutRefusal}
 use Rattle.node.specs.declared.layout.Layout.{Layout}
@@ -15,7 +16,7 @@ use Rattle.node.specs.declared.layout.Layout.the-variants.{Good, TooLong, Fault
 use Rattle.node.specs.declared.names.Repeated.{Repeated}
 use Rattle.node.specs.declared.names.Repeated.the-variants.{Nowhere, At}
 use Rattle.meaning.specs.Promise.{workWidth, refuseIf}
-use Rattle.type_check.specs.Post.{orNext, loanRefusal, laterRefusal, earlyRefusal, Passed}
+use Rattle.type_check.specs.Post.{loanRefusal, laterRefusal, earlyRefusal, Passed}
 
 pub names-counted : (s : List ℕ) → length (namesOf s) ≡ nameCount s
 unfolding namesOf nameCount

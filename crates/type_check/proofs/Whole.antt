@@ -1,38 +1,32 @@
 -- Both passes over a module with no fault do what the meaning says of the whole module. Assumes nothing.
-use Prim.Native.Nat.{ℕ, zero, suc, _+_, _-_, _*_, _^_, _≤_, _<_}
+use Prim.Native.Nat.{ℕ, _+_, _-_, _*_}
 use mathlib.Core.Path.{_≡_, refl, sym, _∙_, ap, ap₂, subst}
-use mathlib.Core.Bool.{Bool, true, false}
-use mathlib.Core.List.{List, [], _∷_, _++_, map, map-append, append-nil}
+use mathlib.Core.Bool.{true}
+use mathlib.Core.List.{List, [], _∷_, _++_, map, map-append}
 use native.Mathlib.Omega.{arith}
-use lib.ListN.{length, getD}
-use Rattle.shape.specs.Shape.{anItem, pick}
-use Rattle.shape.specs.declared.Holds.the-variants.{Items}
+use lib.ListN.{length}
+use Rattle.shape.specs.Shape.{anItem}
 use Rattle.node.specs.Bytes.{wordAt}
-use Rattle.node.specs.Names.{stands, chain, itemPlaces, itemBytes, itemsOf, builtIns, repeatedName}
-use Rattle.node.specs.Layout.{layoutOf, stopAt}
-use Rattle.node.specs.Fine.{FineRecord, FineList}
+use Rattle.node.specs.Names.{itemPlaces, builtIns}
+use Rattle.node.specs.Layout.{layoutOf}
+use Rattle.node.specs.Fine.{FineRecord}
 use Rattle.node.specs.Tree.{Item}
-use Rattle.node.specs.Record.{recordsAt, recordsWith, itemOf}
 use Rattle.node.specs.declared.layout.Layout.the-variants.{Good}
-use Rattle.node.specs.declared.names.Repeated.the-variants.{Nowhere}
-use Rattle.node.proofs.Open.{module-parts, item-chain}
-use Rattle.node.proofs.Decode.{records-cons, records-end}
-use Rattle.types.specs.Ty.{Ty, parts}
-use Rattle.meaning.specs.TypeError.{TypeError}
-use Rattle.meaning.specs.Context.{TypeMap, ModuleContext, Context, context, blank, each}
+use Rattle.meaning.specs.Context.{TypeMap, ModuleContext, context, blank, each}
 use Rattle.meaning.specs.Convert.{Slot}
-use Rattle.meaning.specs.Module.{slotType, declare, declarations, declareAll, emptyContext, errorsIn1, typesIn1, itemErrors, itemSlots, itemTypes, moduleErrors, typesMet, neededTypes}
-use Rattle.meaning.specs.Promise.{treesOf, builtInsOf, contextOf, errorsOf, typesOf}
-use Rattle.state.specs.Effect.{Store, store, storeFrom, Effect, nothing, _then_, needed}
-use Rattle.state.specs.Represents.{Lent, Does, Represents}
-use Rattle.state.proofs.Laws.{does-then}
+use Rattle.meaning.specs.Module.{slotType, declarations, declareAll, emptyContext, typesIn1, itemErrors, itemSlots, itemTypes, moduleErrors, typesMet}
+use Rattle.meaning.specs.Promise.{treesOf, builtInsOf, contextOf, errorsOf}
+use Rattle.meaning.proofs.Order.{builtIns-kept}
+use Rattle.walk.specs.Effect.{store, storeFrom, Effect, _then_}
+use Rattle.walk.specs.Represents.{Lent, Does}
+use Rattle.walk.proofs.Laws.{does-then}
 use Rattle.convert.specs.Convert.{Resolves, storeSlot, visiting}
-use Rattle.places.specs.Absolute.{itemTreeAt, treesAt, itemsAt, toItems, All}
-use Rattle.places.specs.Stores.{itemStores, moduleStores}
-use Rattle.places.proofs.Items.{SameModule, same-module, items-fine}
-use Rattle.places.proofs.Listed.{module-items}
-use Rattle.places.proofs.Stores.{stores-at}
-use Rattle.declare.specs.Declare.{declarationsOf, declaredAll}
+use Rattle.slot_places.specs.Absolute.{moduleItemAt, treesAt, itemsAt, All}
+use Rattle.slot_places.specs.Stores.{itemStores, moduleStores}
+use Rattle.slot_places.proofs.Items.{same-module, items-fine}
+use Rattle.slot_places.proofs.Listed.{module-items}
+use Rattle.slot_places.proofs.Stores.{stores-at}
+use Rattle.declare.specs.Declare.{declarationsOf}
 use Rattle.declare.specs.Post.{AllDeclared}
 use Rattle.items.specs.Post.{Outside, ItemsChecked}
 
@@ -50,12 +44,6 @@ moduleEffect input =
       steps = moduleSteps input;
     }
 
--- Pass 1 leaves the built-in types as they are
-pub builtIns-kept : (items : List Item) (m : ModuleContext) → declareAll m items .builtIns ≡ m .builtIns
-unfolding declareAll
-builtIns-kept [] m = refl
-builtIns-kept (i ∷ items) m = builtIns-kept items (declare m i)
-
 -- Slots of several items
 map-each : {A B C : Type 0} (g : B → C) (f : A → List B) (l : List A) → map g (each f l) ≡ each (λ x. map g (f x)) l
 unfolding each
@@ -68,12 +56,12 @@ file-stores [] = refl
 file-stores (s ∷ l) = let e : 0 + s .at ≡ s .at = omega arith in λ i. store (e i) (s .type) ∷ file-stores l i
 
 stores-of : (input : List ℕ) (m : ModuleContext) (ps : List ℕ) → All (λ p. FineRecord input 63 p (length input) anItem) ps
-    → map storeSlot (each (itemSlots m) (map (itemTreeAt input) ps)) ≡ each (itemStores input m) ps
+    → map storeSlot (each (itemSlots m) (map (moduleItemAt input) ps)) ≡ each (itemStores input m) ps
 unfolding All each
 stores-of input m [] h = refl
 stores-of input m (p ∷ ps) h =
-    map-append storeSlot (itemSlots m (itemTreeAt input p)) (each (itemSlots m) (map (itemTreeAt input) ps))
-    ∙ ap₂ _++_ (sym (file-stores (itemSlots m (itemTreeAt input p))) ∙ stores-at input m p (h .0)) (stores-of input m ps (h .1))
+    map-append storeSlot (itemSlots m (moduleItemAt input p)) (each (itemSlots m) (map (moduleItemAt input) ps))
+    ∙ ap₂ _++_ (sym (file-stores (itemSlots m (moduleItemAt input p))) ∙ stores-at input m p (h .0)) (stores-of input m ps (h .1))
 
 -- Pass 1, then pass 2 with the context that pass 1 leaves
 module _ (input : List ℕ) (good : layoutOf input ≡ Good) where
@@ -112,7 +100,7 @@ module _ (input : List ℕ) (good : layoutOf input ≡ Good) where
       → ItemsChecked input (builtIns input) items from (length input) B C → Does (moduleEffect input) A C
   both-passes {A} {B} {C} r d i =
       let m = declareAll start items in
-      let kept : m .builtIns ≡ start .builtIns = builtIns-kept items start in
+      let kept : m .builtIns ≡ start .builtIns = builtIns-kept start items in
       let outside : Outside input (builtIns input) B m =
       record { scope = d .scope (context start blank) r; builtIns = λ name known. ap (λ (f : TypeMap). f name) kept ∙ r .builtIns name known } in
       subst (λ (e : Effect). Does e A C) module-effect (does-then (d .walked .does (context start blank) r) (i .walked .does m outside))

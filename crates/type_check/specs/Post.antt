@@ -1,28 +1,40 @@
 -- What the functions of the entry promise; the entry's own promise is `Checked` (crate meaning).
-use Prim.Native.Nat.{ℕ, _+_, _*_, _≤_, _<_}
+use Prim.Native.Nat.{ℕ, _*_, _≤_}
 use mathlib.Core.Path.{_≡_}
-use mathlib.Core.Bool.{Bool, true, false, _||_}
-use mathlib.Core.List.{List, [], _∷_, _++_}
+use mathlib.Core.Bool.{false, _||_}
+use mathlib.Core.List.{List, [], _∷_}
 use mathlib.Core.Option.{Option, none, some}
 use lib.Dec.{ltb}
-use lib.ListN.{length, drop, replicate}
-use Rattle.types.specs.Ty.{Ty, member}
-use Rattle.types.specs.Table.{rowWidth, hasType, Table}
-use Rattle.fallible.specs.Outcome.{Outcome, refused, accepted}
-use Rattle.fallible.specs.Errors.{errorWidth, errorAt, room}
+use lib.ListN.{length, drop}
+use denote.Ref.{RefT}
+use denote.Triple.Both.{Both}
+use Rattle.contract.specs.Moments.{old, final}
+use Rattle.types.specs.Table.{rowWidth}
+use Rattle.fallible.specs.Outcome.{Outcome, refused, accepted, orNext, firstRefusing, outcomeAfter}
+use Rattle.fallible.specs.Errors.{errorWidth, room}
 use Rattle.node.specs.Names.{namesOf, nameCount, repeatedName, nameRefusal}
 use Rattle.node.specs.Layout.{layoutOf, layoutRefusal}
 use Rattle.node.specs.declared.layout.Layout.the-variants.{Good}
 use Rattle.node.specs.declared.names.Repeated.the-variants.{Nowhere}
-use Rattle.meaning.specs.Promise.{workWidth, Counts, countsOf, Buffers, Lengths, lengthsOf, refuseIf, firstRefusal, cleared, wiped, Accepted, errorsOf}
-use Rattle.state.specs.declared.State.{State}
+use Rattle.meaning.specs.Promise.{workWidth, Counts, countsOf, Buffers, Lengths, lengthsOf, refuseIf}
+use Rattle.meaning.specs.Promise.{cleared, wiped, Accepted}
+use Rattle.walk.specs.declared.State.{State}
 use Rattle.type_check.specs.declared.Answer.{Answer}
 use Rattle.type_check.specs.declared.Answer.the-variants.{Accepted as Counted, Refused}
 use Rattle.type_check.specs.declared.Refusal.{Refusal}
 use Rattle.type_check.specs.declared.Refusal.the-variants.{Never, Because}
 
+-- The four buffers that the entry is lent
 abbrev pub buffers : (output rows errors work : List ℕ) → Buffers
 buffers output rows errors work = record { output = output; rows = rows; errors = errors; work = work }
+
+-- in an `ensures`, at entry
+abbrev pub buffersBefore : (output rows errors work : Both (RefT (List ℕ)) (RefT (List ℕ))) → Buffers
+buffersBefore output rows errors work = buffers (old output) (old rows) (old errors) (old work)
+
+-- and at exit
+abbrev pub buffersAfter : (output rows errors work : Both (RefT (List ℕ)) (RefT (List ℕ))) → Buffers
+buffersAfter output rows errors work = buffers (final output) (final rows) (final errors) (final work)
 
 -- The number of the refusal and its place, or the counts, of each case of the answer
 abbrev pub outcomeOf : Answer → Outcome Counts
@@ -34,10 +46,6 @@ refusalOf Never = none
 refusalOf (Because number place) = some (number, place)
 
 -- Tests 1 to 5, which are made before anything is written: the first that refuses decides
-abbrev pub orNext : Option (ℕ × ℕ) → Option (ℕ × ℕ) → Option (ℕ × ℕ)
-orNext none other = other
-orNext (some r) other = some r
-
 abbrev pub loanRefusal : (input : List ℕ) → (output work : ℕ) → Option (ℕ × ℕ)
 loanRefusal input output work = refuseIf (ltb output (length input) || ltb work (workWidth * length (namesOf input))) 5
 
@@ -72,8 +80,8 @@ pub record BothPasses (input : List ℕ) (before after : Buffers) (r : State) : 
 -- Tests 6 and 7
 abbrev pub lateOutcome : (input : List ℕ) → Lengths → Outcome Counts
 lateOutcome input lent =
-    firstRefusal
-    (refuseIf (ltb (lent .rows) (rowWidth * countsOf input .rows)) 6 ∷ refuseIf (ltb (lent .errors) (errorWidth * countsOf input .errors)) 7 ∷ [])
+    outcomeAfter
+    (firstRefusing (refuseIf (ltb (lent .rows) (rowWidth * countsOf input .rows)) 6 ∷ refuseIf (ltb (lent .errors) (errorWidth * countsOf input .errors)) 7 ∷ []))
     (accepted (countsOf input))
 
 -- What the check promises once tests 1 to 5 are passed, with working words for the names alone

@@ -1,24 +1,29 @@
-// `type_check_module`: the tests that turn a module back, then pass 1 over the items' declared types and pass 2 over the items.
+// `type_check_module`: the tests that turn a module back, then pass 1 over the items' declared types and pass 2 over
+// the items.
 use declare::declare_items;
+use fallible::ERROR_WIDTH;
 use items::type_check_items;
+use node::bytes::HEAD_END;
 use node::bytes::length_at;
+use node::fine::Nodes;
 use node::layout::Layout;
 use node::layout::check_layout;
 use node::names::Repeated;
 use node::names::built_ins;
 use node::names::name_count;
 use node::names::repeated_name;
-use state::State;
-use state::WORK_WIDTH;
+use walk::State;
+use walk::WORK_WIDTH;
 ghost use mathlib.Core.Path.{_≡_};
 ghost use mathlib.Core.Bool.{true, false};
-ghost use mathlib.Core.Option.{none};
 ghost use Prim.Native.Nat.{_≤_, _*_};
 ghost use mathlib.Core.List.{_++_};
 ghost use lib.ListN.{length, replicate, drop};
+ghost use Rattle.contract.specs.Moments.{old, final};
 ghost use Rattle.node.specs.Names.{nameCount};
 ghost use Rattle.meaning.specs.Promise.{Checked, cleared, workWidth};
-ghost use Rattle.type_check.specs.Post.{buffers, outcomeOf, refusalOf, earlyRefusal, loanRefusal, laterRefusal, Passed, BothPasses, Ends};
+ghost use Rattle.type_check.specs.Post.{buffersBefore, buffersAfter, outcomeOf, refusalOf, earlyRefusal};
+ghost use Rattle.type_check.specs.Post.{loanRefusal, laterRefusal, Passed, BothPasses, Ends};
 
 // The answer: how many rows and errors there are, or why the module is turned back and where.
 pub enum Answer {
@@ -32,20 +37,12 @@ enum Refusal {
     Because { number: u32, place: usize },
 }
 
-// The words of the rows that every table begins with.
-const FIXED_WORDS: usize = 28;
-
-// Where the record of the names starts, and how many levels are left for an item.
-const NAMES: usize = 16;
-
+// How many levels are left for an item.
 const ITEM_DEPTH: usize = 63;
-
-// Words of an error.
-const ERROR_WIDTH: usize = 7;
 
 // Test 5: the output is shorter than the input, or there are too few working words.
 fn loan_refusal(input: &[u8], output: usize, work: usize) -> Refusal
-    ensures { λ r. ⌜ refusalOf r ≡ loanRefusal (now (input .entry)) output work ⌝ }
+    ensures { λ r. ⌜ refusalOf r ≡ loanRefusal (old input) output work ⌝ }
 {
     let names = name_count(input);
     if output < input.len() {
@@ -65,7 +62,7 @@ fn loan_refusal(input: &[u8], output: usize, work: usize) -> Refusal
 
 // Tests 4 and 5.
 fn name_refusal(input: &[u8], output: usize, work: usize) -> Refusal
-    ensures { λ r. ⌜ refusalOf r ≡ laterRefusal (now (input .entry)) output work ⌝ }
+    ensures { λ r. ⌜ refusalOf r ≡ laterRefusal (old input) output work ⌝ }
 {
     let repeated = repeated_name(input);
     match repeated {
@@ -76,7 +73,7 @@ fn name_refusal(input: &[u8], output: usize, work: usize) -> Refusal
 
 // Tests 1 to 5: why the module is turned back before anything is written.
 fn early_refusal(input: &[u8], output: usize, work: usize) -> Refusal
-    ensures { λ r. ⌜ refusalOf r ≡ earlyRefusal (now (input .entry)) output work ⌝ }
+    ensures { λ r. ⌜ refusalOf r ≡ earlyRefusal (old input) output work ⌝ }
 {
     let layout = check_layout(input);
     match layout {
@@ -93,7 +90,7 @@ fn early_refusal(input: &[u8], output: usize, work: usize) -> Refusal
 // Sets the first `count` words to 0.
 fn clear_words(words: &mut [u32], count: usize)
     requires { ⌜ count ≤ length (now words) ⌝ }
-    ensures { λ _. ⌜ now (words .exit) ≡ cleared count (now (words .entry)) ⌝ }
+    ensures { λ _. ⌜ final words ≡ cleared count (old words) ⌝ }
 {
     let mut i: usize = 0;
     while i < count {
@@ -105,7 +102,7 @@ fn clear_words(words: &mut [u32], count: usize)
 // Sets the first `count` bytes to 0.
 fn clear_bytes(bytes: &mut [u8], count: usize)
     requires { ⌜ count ≤ length (now bytes) ⌝ }
-    ensures { λ _. ⌜ now (bytes .exit) ≡ cleared count (now (bytes .entry)) ⌝ }
+    ensures { λ _. ⌜ final bytes ≡ cleared count (old bytes) ⌝ }
 {
     let mut i: usize = 0;
     while i < count {
@@ -117,7 +114,7 @@ fn clear_bytes(bytes: &mut [u8], count: usize)
 // The output begins as a copy of the input.
 fn copy_bytes(input: &[u8], output: &mut [u8])
     requires { ⌜ length (now input) ≤ length (now output) ⌝ }
-    ensures { λ _. ⌜ now (output .exit) ≡ now (input .entry) ++ drop (length (now (input .entry))) (now (output .entry)) ⌝ }
+    ensures { λ _. ⌜ final output ≡ old input ++ drop (length (old input)) (old output) ⌝ }
 {
     let mut i: usize = 0;
     while i < input.len() {
@@ -137,9 +134,11 @@ fn both_passes(
     requires { ⌜ Passed (now input) (length (now output)) (length (now work)) ⌝ }
     requires { ⌜ now output ≡ now input ++ drop (length (now input)) (now output) ⌝ }
     requires { ⌜ now work ≡ replicate (workWidth * nameCount (now input)) 0 ⌝ }
-    ensures { λ r. ⌜ BothPasses (now (input .entry)) (buffers (now (output .entry)) (now (rows .entry)) (now (errors .entry)) (now (work .entry))) (buffers (now (output .exit)) (now (rows .exit)) (now (errors .exit)) (now (work .exit))) r ⌝ }
+    ensures { λ r. ⌜ BothPasses (old input)
+        (buffersBefore output rows errors work)
+        (buffersAfter output rows errors work) r ⌝ }
 {
-    if rows.len() < FIXED_WORDS {
+    if rows.len() < types::FIXED_LENGTH {
         return State {
             errors: 0,
             rows: 0,
@@ -147,50 +146,29 @@ fn both_passes(
         };
     }
     types::put_fixed_rows(rows);
-    let mut buckets = [0u16; lookup::LENGTH];
-    lookup::link_all(rows, types::FIXED_COUNT, &mut buckets);
+    let mut index = [0u16; row_index::LENGTH];
+    let index = &mut index;
+    row_index::link_all(rows, types::FIXED_COUNT, index);
     let names = built_ins(input);
-    let from = NAMES + length_at(input, NAMES);
+    let from = HEAD_END + length_at(input, HEAD_END);
     let end = input.len();
+    let depth = ITEM_DEPTH;
+    let list = Nodes { from, end, depth };
     let start = State {
         errors: 0,
-        rows: 7,
+        rows: types::FIXED_COUNT,
         full: false,
     };
-    let declared = declare_items(
-        input,
-        names,
-        work,
-        from,
-        end,
-        ITEM_DEPTH,
-        output,
-        errors,
-        rows,
-        &mut buckets,
-        start,
-    );
-    type_check_items(
-        input,
-        names,
-        work,
-        from,
-        end,
-        ITEM_DEPTH,
-        output,
-        errors,
-        rows,
-        &mut buckets,
-        declared,
-    )
+    let next = declare_items(input, names, work, list, output, errors, rows, index, start);
+    type_check_items(input, names, work, list, output, errors, rows, index, next)
 }
 
 // Refusals 6 and 7 leave zeros.
 fn wipe(count: usize, output: &mut [u8], rows: &mut [u32], errors: &mut [u32])
     requires { ⌜ count ≤ length (now output) ⌝ }
-    ensures { λ _. ⌜ now (output .exit) ≡ cleared count (now (output .entry)) ⌝ }
-    ensures { λ _. ⌜ now (rows .exit) ≡ cleared (length (now (rows .entry))) (now (rows .entry)) ⌝ }
-    ensures { λ _. ⌜ now (errors .exit) ≡ cleared (length (now (errors .entry))) (now (errors .entry)) ⌝ }
+    ensures { λ _. ⌜ final output ≡ cleared count (old output) ⌝ }
+    ensures { λ _. ⌜ final rows ≡ cleared (length (old rows)) (old rows) ⌝ }
+    ensures { λ _. ⌜ final errors ≡ cleared (length (old errors)) (old errors) ⌝ }
 {
     clear_bytes(output, count);
     let row_words = rows.len();
@@ -209,7 +187,9 @@ fn run(
 ) -> Answer
     requires { ⌜ Passed (now input) (length (now output)) (length (now work)) ⌝ }
     requires { ⌜ length (now work) ≡ workWidth * nameCount (now input) ⌝ }
-    ensures { λ r. ⌜ Ends (now (input .entry)) (buffers (now (output .entry)) (now (rows .entry)) (now (errors .entry)) (now (work .entry))) (buffers (now (output .exit)) (now (rows .exit)) (now (errors .exit)) (now (work .exit))) (outcomeOf r) ⌝ }
+    ensures { λ r. ⌜ Ends (old input)
+        (buffersBefore output rows errors work)
+        (buffersAfter output rows errors work) (outcomeOf r) ⌝ }
 {
     let words = work.len();
     clear_words(work, words);
@@ -237,8 +217,8 @@ fn run(
     }
 }
 
-// Checks a module. The output gets the module with its slots filled; the rows, the errors and the counts are the answer. Nothing is asked of
-// the caller: what is lent too short is refused.
+// Checks a module. The output gets the module with its slots filled; the rows, the errors and the counts are the
+// answer. Nothing is asked of the caller: what is lent too short is refused.
 pub fn type_check_module(
     input: &[u8],
     output: &mut [u8],
@@ -246,7 +226,9 @@ pub fn type_check_module(
     errors: &mut [u32],
     work: &mut [u32],
 ) -> Answer
-    ensures { λ r. ⌜ Checked (now (input .entry)) (buffers (now (output .entry)) (now (rows .entry)) (now (errors .entry)) (now (work .entry))) (buffers (now (output .exit)) (now (rows .exit)) (now (errors .exit)) (now (work .exit))) (outcomeOf r) ⌝ }
+    ensures { λ r. ⌜ Checked (old input)
+        (buffersBefore output rows errors work)
+        (buffersAfter output rows errors work) (outcomeOf r) ⌝ }
 {
     let refusal = early_refusal(input, output.len(), work.len());
     match refusal {

@@ -9,8 +9,8 @@ use borrow.Author.Tests.{eqb-false}
 use lib.Dec.{eqb, ltb}
 use lib.ListN.{length, getD, set, length-set}
 use lib.Seq.{getD-set-same, getD-set-other}
-use Rattle.lookup.specs.Buckets.{withRow, Indexed}
-use Rattle.lookup.proofs.Index.{indexed-kept, indexed-more}
+use Rattle.row_index.specs.Index.{withRow, Indexed}
+use Rattle.row_index.proofs.Index.{indexed-kept, indexed-more}
 use Rattle.types.specs.Table.{Words, words, rowAt, build, unfolded, hasType, Table, RowOk, Extends}
 use Rattle.types.specs.Post.{Added, Found, highestPart, stored}
 use Rattle.types.proofs.Laws.{unfolded-row, build-below, words-injective, first-at-most, second-at-most, first-lower, second-lower}

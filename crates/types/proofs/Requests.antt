@@ -6,9 +6,9 @@ use mathlib.Core.Logic.{_⊎_, inl, inr}
 use native.Mathlib.Omega.{arith}
 use lib.ListN.{length}
 use Rattle.types.specs.Ty.{Ty, end, node}
-use Rattle.lookup.specs.Buckets.{withRow, Indexed}
+use Rattle.row_index.specs.Index.{withRow, Indexed}
 use Rattle.types.specs.Table.{Words, rowAt, build, unfolded, hasType, Table, RowOk, IsType, IsCell, NameOk}
-use Rattle.types.specs.Post.{typeOf, wordsOf, PartsOk, Sort, Added, NoRoom, Found, highestPart, stored}
+use Rattle.types.specs.Post.{typeOfRow, wordsOf, PartsOk, Sort, Added, NoRoom, Found, highestPart, stored}
 use Rattle.types.specs.declared.Row.{Row}
 use Rattle.types.specs.declared.Row.the-variants.{Pointer, Array, Struct, Function, Alias, DistinctAlias, Field, Argument}
 use Rattle.types.proofs.Laws.{unfolded-zero, unfolded-row}
@@ -16,7 +16,7 @@ use Rattle.types.proofs.Set.{added-found}
 use Rattle.types.proofs.Append.{stored-row, stored-indexed, added-stored, new-type, highest-low, none-like}
 
 -- Its words unfold to its type
-pub words-type : (row : Row) (look : ℕ → Ty) → look 0 ≡ end → build (wordsOf row) look ≡ typeOf row look
+pub words-type : (row : Row) (look : ℕ → Ty) → look 0 ≡ end → build (wordsOf row) look ≡ typeOfRow row look
 words-type (Pointer t) look z = ap (λ (x : Ty). node 6 (look t) x 0 0) z
 words-type (Array t size) look z = refl
 words-type (Struct fields) look z = ap (λ (x : Ty). node 8 (look fields) x 0 0) z
@@ -82,15 +82,15 @@ module _ {w : List ℕ} {c : ℕ} {row : Row} {r : Words} {m n : ℕ} (s : Sough
   ok : RowOk w c r
   ok = subst (RowOk w c) (sym (s .words)) (words-ok w c row (s .parts))
 
-  built : build r (unfolded w) ≡ typeOf row (unfolded w)
+  built : build r (unfolded w) ≡ typeOfRow row (unfolded w)
   built = ap (λ (x : Words). build x (unfolded w)) (s .words) ∙ words-type row (unfolded w) (unfolded-zero w)
 
-  pub intern-found : (n ≡ 0 → ⊥) → Added w c (typeOf row (unfolded w)) w n c × Sort w c row n
+  pub intern-found : (n ≡ 0 → ⊥) → Added w c (typeOfRow row (unfolded w)) w n c × Sort w c row n
   intern-found ne =
       let l : 1 ≤ n = omega arith in
       let h = s .found .high in
       let e = s .found .found l in (
-        added-found w c n (typeOf row (unfolded w)) (s .table) l h (unfolded-row w c (s .table) n l h ∙ ap (λ (x : Words). build x (unfolded w)) e ∙ built),
+        added-found w c n (typeOfRow row (unfolded w)) (s .table) l h (unfolded-row w c (s .table) n l h ∙ ap (λ (x : Words). build x (unfolded w)) e ∙ built),
         words-sort w c n l h row (e ∙ s .words),
       )
 
@@ -101,14 +101,14 @@ module _ {w : List ℕ} {c : ℕ} {row : Row} {r : Words} {m n : ℕ} (s : Sough
     none : (i : ℕ) → 1 ≤ i → i ≤ c → rowAt w i ≡ r → ⊥
     none = none-like w c (s .table) r n (subst (λ (x : ℕ). Found w x c r n) (s .highest) (s .found)) z
 
-    pub intern-full : (length w < 4 * (c + 1)) ⊎ (2 ^ 32 ≤ c + 1) → NoRoom w c (typeOf row (unfolded w)) w
+    pub intern-full : (length w < 4 * (c + 1)) ⊎ (2 ^ 32 ≤ c + 1) → NoRoom w c (typeOfRow row (unfolded w)) w
     intern-full full = record { kept = refl; absent = ap (hasType w c) (sym built) ∙ new-type w c r (s .table) ok none; full = full }
 
     pub intern-new : c + 1 < 2 ^ 32 → 4 * (c + 1) ≤ length w → {w′ : List ℕ} → w′ ≡ stored w c r
-        → Added w c (typeOf row (unfolded w)) w′ (c + 1) (c + 1) × Sort w′ (c + 1) row (c + 1)
+        → Added w c (typeOfRow row (unfolded w)) w′ (c + 1) (c + 1) × Sort w′ (c + 1) row (c + 1)
     intern-new small room {w′} e =
         let space : 4 * c + 4 ≤ length w = omega arith in
         let added = added-stored w c r space (s .table) ok small none in (
-          subst (λ (x : List ℕ). Added w c (typeOf row (unfolded w)) x (c + 1) (c + 1)) (sym e) (subst (λ (u : Ty). Added w c u (stored w c r) (c + 1) (c + 1)) built added),
+          subst (λ (x : List ℕ). Added w c (typeOfRow row (unfolded w)) x (c + 1) (c + 1)) (sym e) (subst (λ (u : Ty). Added w c u (stored w c r) (c + 1) (c + 1)) built added),
           words-sort w′ (c + 1) (c + 1) (omega arith) (omega arith) row (ap (λ (x : List ℕ). rowAt x (c + 1)) e ∙ stored-row w c r space ∙ s .words),
         )

@@ -1,31 +1,35 @@
 -- What the functions of the table promise.
-use Prim.Native.Nat.{ℕ, _+_, _-_, _*_, _^_, _≤_, _<_}
+use Prim.Native.Nat.{ℕ, _+_, _*_, _^_, _≤_, _<_}
 use mathlib.Core.Path.{_≡_}
 use mathlib.Core.Bool.{false, cond, _||_}
 use mathlib.Core.List.{List}
 use mathlib.Core.Logic.{_⊎_}
 use mathlib.Core.Option.{Option, none, some}
 use lib.Dec.{eqb, ltb}
-use lib.ListN.{length, getD, set}
-use Rattle.types.specs.Ty.{Ty, same, member, fixedTypes, kindOf, pointer, array, struct, function, alias, distinct, field, argument, pointerKind, arrayKind, structKind, functionKind, aliasKind, distinctKind, fieldKind, argumentKind, stringName}
-use Rattle.types.specs.Table.{Words, words, rowWidth, rowAt, fixedCount, unfolded, hasType, Table, Extends, IsType, IsCell}
+use lib.ListN.{length, getD}
+use Rattle.types.specs.Ty.{Ty, same, member, fixedTypes, kindOf, pointer, array, struct, function, alias}
+use Rattle.types.specs.Ty.{distinct, field, argument, pointerKind, arrayKind, structKind, functionKind, aliasKind}
+use Rattle.types.specs.Ty.{distinctKind, fieldKind, argumentKind, stringName}
+use Rattle.types.specs.Table.{Words, words, rowWidth, fixedCount, unfolded, hasType, Table, Extends}
+use Rattle.types.specs.Table.{IsType, IsCell}
 pub use Rattle.rows.specs.Row.{stored}
 pub use Rattle.rows.specs.Search.{Found}
 use Rattle.types.specs.declared.Row.{Row}
-use Rattle.types.specs.declared.Row.the-variants.{Pointer, Array, Struct, Function, Alias, DistinctAlias, Field, Argument}
+use Rattle.types.specs.declared.Row.the-variants.{Pointer, Array, Struct, Function, Alias, DistinctAlias, Field}
+use Rattle.types.specs.declared.Row.the-variants.{Argument}
 use Rattle.types.specs.declared.Interned.{Interned}
 use Rattle.types.specs.declared.Interned.the-variants.{At, Full}
 
 -- The type of a row that is asked for, where `look` unfolds its parts
-abbrev pub typeOf : Row → (look : ℕ → Ty) → Ty
-typeOf (Pointer t) look = pointer (look t)
-typeOf (Array t size) look = array (look t) size
-typeOf (Struct fields) look = struct (look fields)
-typeOf (Function returned arguments) look = function (look returned) (look arguments)
-typeOf (Alias t name) look = alias (look t) name
-typeOf (DistinctAlias t name) look = distinct (look t) name
-typeOf (Field t rest name) look = field (look t) (look rest) name
-typeOf (Argument t rest) look = argument (look t) (look rest)
+abbrev pub typeOfRow : Row → (look : ℕ → Ty) → Ty
+typeOfRow (Pointer t) look = pointer (look t)
+typeOfRow (Array t size) look = array (look t) size
+typeOfRow (Struct fields) look = struct (look fields)
+typeOfRow (Function returned arguments) look = function (look returned) (look arguments)
+typeOfRow (Alias t name) look = alias (look t) name
+typeOfRow (DistinctAlias t name) look = distinct (look t) name
+typeOfRow (Field t rest name) look = field (look t) (look rest) name
+typeOfRow (Argument t rest) look = argument (look t) (look rest)
 
 -- Its words
 abbrev pub wordsOf : Row → Words
@@ -78,8 +82,8 @@ pub record NoRoom (w : List ℕ) (count : ℕ) (t : Ty) (w′ : List ℕ) : Type
 
 -- The answer of `intern`, by cases
 abbrev pub InternPost : List ℕ → (count : ℕ) → Row → List ℕ → Interned → Type 0
-InternPost w count r w′ (At n count′) = Added w count (typeOf r (unfolded w)) w′ n count′ × Sort w′ count′ r n
-InternPost w count r w′ Full = NoRoom w count (typeOf r (unfolded w)) w′
+InternPost w count r w′ (At n count′) = Added w count (typeOfRow r (unfolded w)) w′ n count′ × Sort w′ count′ r n
+InternPost w count r w′ Full = NoRoom w count (typeOfRow r (unfolded w)) w′
 
 -- How many rows there are after `intern`
 abbrev pub countAfter : (count : ℕ) → Interned → ℕ

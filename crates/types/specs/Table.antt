@@ -6,7 +6,9 @@ use mathlib.Core.Bool.{Bool, true, false, cond, _||_}
 use mathlib.Core.Logic.{_⊎_}
 use lib.ListN.{length, getD}
 use lib.Dec.{eqb, ltb}
-use Rattle.types.specs.Ty.{Ty, end, node, same, unknownKind, voidKind, boolKind, u16Kind, i16Kind, pointerKind, arrayKind, structKind, functionKind, aliasKind, distinctKind, fieldKind, argumentKind, stringName}
+use Rattle.types.specs.Ty.{Ty, end, node, same, unknownKind, voidKind, boolKind, u16Kind, i16Kind, pointerKind}
+use Rattle.types.specs.Ty.{arrayKind, structKind, functionKind, aliasKind, distinctKind, fieldKind, argumentKind}
+use Rattle.types.specs.Ty.{stringName}
 pub use Rattle.rows.specs.declared.Words.{Words}
 pub use Rattle.rows.specs.Row.{rowWidth, words, rowAt}
 pub use Rattle.rows.specs.Search.{Decides}

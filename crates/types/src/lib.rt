@@ -5,17 +5,24 @@ use rows::Words;
 use rows::row_at;
 use rows::store;
 ghost use mathlib.Core.Path.{_≡_};
-ghost use Prim.Native.Nat.{_+_, _*_, _^_, _≤_, _<_};
+ghost use Prim.Native.Nat.{_+_, _*_, _≤_, _<_};
 ghost use lib.ListN.{length};
-ghost use Rattle.lookup.specs.Buckets.{Indexed};
-ghost use Rattle.types.specs.Ty.{kindOf, firstOf, secondOf, sizeOf, nameOf, desugar as desugared, removeAliasing, cellCount, fieldNamed, arrayKind, structKind, functionKind, fieldKind, argumentKind};
+ghost use Rattle.contract.specs.Moments.{old, final};
+ghost use Rattle.row_index.specs.Index.{Indexed};
+ghost use Rattle.types.specs.Ty.{kindOf, firstOf, secondOf, sizeOf, nameOf, desugar as desugared, removeAliasing};
+ghost use Rattle.types.specs.Ty.{cellCount, fieldNamed, arrayKind, structKind, functionKind, fieldKind};
+ghost use Rattle.types.specs.Ty.{argumentKind};
 ghost use Rattle.types.specs.Table.{rowWidth, fixedCount, unfolded, Table, IsType, IsList};
-ghost use Rattle.types.specs.Post.{wordsOf, highestPart, PartsOk, InternPost, countAfter, FixedStored, HasTypePart, TypePart, CellPart, FoundType};
+ghost use Rattle.types.specs.Post.{wordsOf, highestPart, PartsOk, InternPost, countAfter, FixedStored};
+ghost use Rattle.types.specs.Post.{HasTypePart, TypePart, CellPart, FoundType};
 
 // The rows that every table begins with, and their words.
 pub const FIXED_COUNT: u32 = 7;
 
 pub const FIXED_LENGTH: usize = 28;
+
+// The row of String; that of another built-in type has the number of its kind.
+pub const STRING: u32 = 7;
 
 // The kinds of rows.
 pub const UNKNOWN: u32 = 1;
@@ -109,7 +116,7 @@ pub enum Interned {
 // The kind of row n.
 pub fn kind(rows: &[u32], count: u32, n: u32) -> u32
     requires { ⌜ Table (now rows) count × (1 ≤ n) × (n ≤ count) ⌝ }
-    ensures { λ r. ⌜ r ≡ kindOf (unfolded (now (rows .entry)) n) ⌝ }
+    ensures { λ r. ⌜ r ≡ kindOf (unfolded (old rows) n) ⌝ }
 {
     let row = row_at(rows, n);
     row.kind
@@ -118,7 +125,7 @@ pub fn kind(rows: &[u32], count: u32, n: u32) -> u32
 // The name of row n, or 0.
 pub fn name(rows: &[u32], count: u32, n: u32) -> u32
     requires { ⌜ Table (now rows) count × (1 ≤ n) × (n ≤ count) ⌝ }
-    ensures { λ r. ⌜ r ≡ nameOf (unfolded (now (rows .entry)) n) ⌝ }
+    ensures { λ r. ⌜ r ≡ nameOf (unfolded (old rows) n) ⌝ }
 {
     let row = row_at(rows, n);
     row.name
@@ -127,7 +134,7 @@ pub fn name(rows: &[u32], count: u32, n: u32) -> u32
 // The size of an array.
 pub fn size(rows: &[u32], count: u32, n: u32) -> u32
     requires { ⌜ Table (now rows) count × (1 ≤ n) × (n ≤ count) × (kindOf (unfolded (now rows) n) ≡ arrayKind) ⌝ }
-    ensures { λ r. ⌜ r ≡ sizeOf (unfolded (now (rows .entry)) n) ⌝ }
+    ensures { λ r. ⌜ r ≡ sizeOf (unfolded (old rows) n) ⌝ }
 {
     let row = row_at(rows, n);
     row.second
@@ -136,7 +143,7 @@ pub fn size(rows: &[u32], count: u32, n: u32) -> u32
 // The type in row n: a pointee, an element, a returned type, an alias' type, a field's or an argument's.
 pub fn part(rows: &[u32], count: u32, n: u32) -> u32
     requires { ⌜ Table (now rows) count × (1 ≤ n) × (n ≤ count) × HasTypePart (unfolded (now rows) n) ⌝ }
-    ensures { λ r. ⌜ TypePart (now (rows .entry)) count n (firstOf (unfolded (now (rows .entry)) n)) r ⌝ }
+    ensures { λ r. ⌜ TypePart (old rows) count n (firstOf (unfolded (old rows) n)) r ⌝ }
 {
     let row = row_at(rows, n);
     row.first
@@ -145,7 +152,7 @@ pub fn part(rows: &[u32], count: u32, n: u32) -> u32
 // The first field cell of a struct, or 0.
 pub fn fields(rows: &[u32], count: u32, n: u32) -> u32
     requires { ⌜ Table (now rows) count × (1 ≤ n) × (n ≤ count) × (kindOf (unfolded (now rows) n) ≡ structKind) ⌝ }
-    ensures { λ r. ⌜ CellPart (now (rows .entry)) count n fieldKind (firstOf (unfolded (now (rows .entry)) n)) r ⌝ }
+    ensures { λ r. ⌜ CellPart (old rows) count n fieldKind (firstOf (unfolded (old rows) n)) r ⌝ }
 {
     let row = row_at(rows, n);
     row.first
@@ -154,7 +161,7 @@ pub fn fields(rows: &[u32], count: u32, n: u32) -> u32
 // The first argument cell of a function, or 0.
 pub fn arguments(rows: &[u32], count: u32, n: u32) -> u32
     requires { ⌜ Table (now rows) count × (1 ≤ n) × (n ≤ count) × (kindOf (unfolded (now rows) n) ≡ functionKind) ⌝ }
-    ensures { λ r. ⌜ CellPart (now (rows .entry)) count n argumentKind (secondOf (unfolded (now (rows .entry)) n)) r ⌝ }
+    ensures { λ r. ⌜ CellPart (old rows) count n argumentKind (secondOf (unfolded (old rows) n)) r ⌝ }
 {
     let row = row_at(rows, n);
     row.second
@@ -163,7 +170,8 @@ pub fn arguments(rows: &[u32], count: u32, n: u32) -> u32
 // The cell after the cell n, or 0.
 pub fn rest(rows: &[u32], count: u32, n: u32) -> u32
     requires { ⌜ Table (now rows) count × (1 ≤ n) × (n ≤ count) × (fieldKind ≤ kindOf (unfolded (now rows) n)) ⌝ }
-    ensures { λ r. ⌜ CellPart (now (rows .entry)) count n (kindOf (unfolded (now (rows .entry)) n)) (secondOf (unfolded (now (rows .entry)) n)) r ⌝ }
+    ensures { λ r. ⌜ CellPart (old rows) count n
+        (kindOf (unfolded (old rows) n)) (secondOf (unfolded (old rows) n)) r ⌝ }
 {
     let row = row_at(rows, n);
     row.second
@@ -172,7 +180,7 @@ pub fn rest(rows: &[u32], count: u32, n: u32) -> u32
 // The type of the first field of that name in a struct, or 0.
 pub fn field_named(rows: &[u32], count: u32, n: u32, name: u32) -> u32
     requires { ⌜ Table (now rows) count × (1 ≤ n) × (n ≤ count) × (kindOf (unfolded (now rows) n) ≡ structKind) ⌝ }
-    ensures { λ r. ⌜ FoundType (now (rows .entry)) count (fieldNamed name (firstOf (unfolded (now (rows .entry)) n))) r ⌝ }
+    ensures { λ r. ⌜ FoundType (old rows) count (fieldNamed name (firstOf (unfolded (old rows) n))) r ⌝ }
 {
     let mut cell = fields(rows, count, n);
     while cell != 0 {
@@ -188,7 +196,7 @@ pub fn field_named(rows: &[u32], count: u32, n: u32, name: u32) -> u32
 // How many cells the list has.
 pub fn cell_count(rows: &[u32], count: u32, cell: u32) -> u32
     requires { ⌜ Table (now rows) count × IsList (now rows) count cell ⌝ }
-    ensures { λ r. ⌜ r ≡ cellCount (unfolded (now (rows .entry)) cell) ⌝ }
+    ensures { λ r. ⌜ r ≡ cellCount (unfolded (old rows) cell) ⌝ }
 {
     let mut at = cell;
     let mut cells: u32 = 0;
@@ -203,7 +211,7 @@ pub fn cell_count(rows: &[u32], count: u32, cell: u32) -> u32
 // Row n with its transparent aliases stripped at the top.
 pub fn desugar(rows: &[u32], count: u32, n: u32) -> u32
     requires { ⌜ Table (now rows) count × IsType (now rows) count n ⌝ }
-    ensures { λ r. ⌜ TypePart (now (rows .entry)) count (n + 1) (desugared (unfolded (now (rows .entry)) n)) r ⌝ }
+    ensures { λ r. ⌜ TypePart (old rows) count (n + 1) (desugared (unfolded (old rows) n)) r ⌝ }
 {
     let mut at = n;
     loop {
@@ -218,7 +226,7 @@ pub fn desugar(rows: &[u32], count: u32, n: u32) -> u32
 // Row n with its aliases of both sorts stripped at the top.
 pub fn remove_aliasing(rows: &[u32], count: u32, n: u32) -> u32
     requires { ⌜ Table (now rows) count × IsType (now rows) count n ⌝ }
-    ensures { λ r. ⌜ TypePart (now (rows .entry)) count (n + 1) (removeAliasing (unfolded (now (rows .entry)) n)) r ⌝ }
+    ensures { λ r. ⌜ TypePart (old rows) count (n + 1) (removeAliasing (unfolded (old rows) n)) r ⌝ }
 {
     let mut at = n;
     loop {
@@ -266,18 +274,18 @@ fn highest_part(row: Words) -> u32
 // A row stands behind its parts, so the search starts behind the highest of them.
 pub fn intern(
     rows: &mut [u32],
-    buckets: &mut [u16; lookup::LENGTH],
+    index: &mut [u16; row_index::LENGTH],
     count: u32,
     row: Row,
 ) -> Interned
     requires { ⌜ Table (now rows) count × PartsOk (now rows) count row ⌝ }
-    requires { ⌜ Indexed (now rows) count (now buckets) ⌝ }
-    ensures { λ r. ⌜ InternPost (now (rows .entry)) count row (now (rows .exit)) r ⌝ }
-    ensures { λ r. ⌜ Indexed (now (rows .exit)) (countAfter count r) (now (buckets .exit)) ⌝ }
+    requires { ⌜ Indexed (now rows) count (now index) ⌝ }
+    ensures { λ r. ⌜ InternPost (old rows) count row (final rows) r ⌝ }
+    ensures { λ r. ⌜ Indexed (final rows) (countAfter count r) (final index) ⌝ }
 {
     let wanted = words_of(row);
     let below = highest_part(wanted);
-    let n = lookup::find(rows, buckets, below, count, wanted);
+    let n = row_index::find(rows, index, below, count, wanted);
     if n != 0 {
         return Interned::At { number: n, count };
     }
@@ -288,7 +296,7 @@ pub fn intern(
         return Interned::Full;
     }
     store(rows, count, wanted);
-    lookup::link(buckets, count + 1, wanted);
+    row_index::link(index, count + 1, wanted);
     Interned::At {
         number: count + 1,
         count: count + 1,
@@ -298,7 +306,7 @@ pub fn intern(
 // Stores the fixed rows.
 pub fn put_fixed_rows(rows: &mut [u32])
     requires { ⌜ rowWidth * fixedCount ≤ length (now rows) ⌝ }
-    ensures { λ _. ⌜ FixedStored (now (rows .entry)) (now (rows .exit)) ⌝ }
+    ensures { λ _. ⌜ FixedStored (old rows) (final rows) ⌝ }
 {
     let mut i = 0;
     while i < FIXED_LENGTH {

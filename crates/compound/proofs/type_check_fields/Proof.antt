@@ -4,17 +4,17 @@ use borrow.Author.Needs.{needs}
 use native.Mathlib.Omega.{arith}
 use mathlib.Core.Path.{_≡_, refl}
 use lib.ListN.{length}
-use Rattle.state.specs.Represents.{lent}
+use Rattle.walk.specs.Represents.{lent}
 use Rattle.expression.proofs.Heads as heads
 use Rattle.compound.proofs.Fields as laws
 use Rattle.compound.proofs.type_check_fields.Statement.{statement}
 use Rattle.compound.proofs.type_check_fields.Tie as tie
 
 abbrev Inv-loop : tie.InvT-loop
-Inv-loop s names work from end depth output₀ errors₀ rows₀ buckets₀ at₀ next₀ output errors rows buckets at next = laws.Checking s names depth end from (lent work output₀ errors₀ rows₀ buckets₀ next₀) at (lent work output errors rows buckets next) × (length errors ≡ length errors₀)
+Inv-loop s names work list output₀ errors₀ rows₀ index₀ end at₀ next₀ output errors rows index at next = laws.Checking s names (list .depth) end at₀ (lent work output₀ errors₀ rows₀ index₀ next₀) at (lent work output errors rows index next) × (length errors ≡ length errors₀)
 
 abbrev μ-loop : tie.MeasureT-loop
-μ-loop s names work from end depth output₀ errors₀ rows₀ buckets₀ at₀ next₀ output errors rows buckets at next = end - at
+μ-loop s names work list output₀ errors₀ rows₀ index₀ end at₀ next₀ output errors rows index at next = end - at
 
 loop-holds : tie.Need-loop-holds Inv-loop μ-loop
 loop-holds c = (laws.checking-start _ _ _ _ (c .before .before .before .before .before .pre .0) (c .before .before .before .before .before .pre .1), refl)
@@ -22,23 +22,23 @@ loop-holds c = (laws.checking-start _ _ _ _ (c .before .before .before .before .
 add-place : tie.Need-add-place Inv-loop μ-loop
 add-place c = let f = laws.field _ _ _ _ (c .before .loop .inv .0) (c .loop-test .taken) in omega (arith, f .room .head, f .room .ends, f .room .few)
 
-sub-type-check-expression : tie.Need-sub-type-check-expression Inv-loop μ-loop
-sub-type-check-expression c = omega (arith, laws.field _ _ _ _ (c .before .loop .inv .0) (c .loop-test .taken) .room .deep)
+sub-depth : tie.Need-sub-depth Inv-loop μ-loop
+sub-depth c = omega (arith, laws.field _ _ _ _ (c .before .before .loop .inv .0) (c .before .loop-test .taken) .room .deep)
 
 type-check-expression-requires : tie.Need-type-check-expression-requires Inv-loop μ-loop
-type-check-expression-requires c κs = (laws.field _ _ _ _ (c .before .before .before .before .before .loop .inv .0) (c .before .before .before .before .loop-test .taken) .value, (c .before .before .before .before .before .loop .inv .0) .ready)
+type-check-expression-requires c κs = (laws.field _ _ _ _ (c .before .before .before .before .before .before .loop .inv .0) (c .before .before .before .before .before .loop-test .taken) .value, (c .before .before .before .before .before .before .loop .inv .0) .ready)
 
 length-at-requires : tie.Need-length-at-requires Inv-loop μ-loop
-length-at-requires c κs = let f = laws.field _ _ _ _ (c .before .before .before .before .before .before .before .before .before .before .before .before .before .loop .inv .0) (c .before .before .before .before .before .before .before .before .before .before .before .before .loop-test .taken) in omega (arith, f .room .head, f .room .ends)
+length-at-requires c κs = let f = laws.field _ _ _ _ (c .before .before .before .before .before .before .before .before .before .before .before .before .before .before .loop .inv .0) (c .before .before .before .before .before .before .before .before .before .before .before .before .before .loop-test .taken) in omega (arith, f .room .head, f .room .ends)
 
 add-at : tie.Need-add-at Inv-loop μ-loop
 add-at c = search needs
 
 loop-less : tie.Need-loop-less Inv-loop μ-loop
-loop-less c = let f = laws.field _ _ _ _ (c .before .before .before .before .before .before .before .before .before .before .before .before .before .before .loop .inv .0) (c .before .before .before .before .before .before .before .before .before .before .before .before .before .loop-test .taken) in omega (arith, f .room .head, c .before .before .before .before .before .before .before .before .before .before .before .before .before .loop-test .taken, c .length-at .ensures .is)
+loop-less c = let f = laws.field _ _ _ _ (c .before .before .before .before .before .before .before .before .before .before .before .before .before .before .before .loop .inv .0) (c .before .before .before .before .before .before .before .before .before .before .before .before .before .before .loop-test .taken) in omega (arith, f .room .head, c .before .before .before .before .before .before .before .before .before .before .before .before .before .before .loop-test .taken, c .length-at .ensures .is)
 
 loop-again : tie.Need-loop-again Inv-loop μ-loop
-loop-again c = (laws.checking-on _ _ _ _ (c .before .before .before .before .before .before .before .before .before .before .before .before .before .before .loop .inv .0) (c .before .before .before .before .before .before .before .before .before .before .before .before .before .loop-test .taken) _ refl (c .before .before .before .before .before .before .before .before .type-check-expression .ensures) _ (heads.stops-at _ _ _ (c .length-at .ensures)), omega (arith, c .before .before .before .before .before .before .before .before .type-check-expression .kept .1 .1 .1 .1 .1 .1 .0, c .before .before .before .before .before .before .before .before .before .before .before .before .before .before .loop .inv .1))
+loop-again c = (laws.checking-on _ _ _ _ (c .before .before .before .before .before .before .before .before .before .before .before .before .before .before .before .loop .inv .0) (c .before .before .before .before .before .before .before .before .before .before .before .before .before .before .loop-test .taken) _ refl (c .before .before .before .before .before .before .before .before .type-check-expression .ensures) _ (heads.stops-at _ _ _ (c .length-at .ensures)), omega (arith, c .before .before .before .before .before .before .before .before .type-check-expression .kept .1 .1 .1 .1 .1 .0, c .before .before .before .before .before .before .before .before .before .before .before .before .before .before .before .loop .inv .1))
 
 same-length : tie.Need-same-length Inv-loop μ-loop
 same-length c = search needs
@@ -60,7 +60,7 @@ type-check-fields-spec =
     μ-loop
     loop-holds
     add-place
-    sub-type-check-expression
+    sub-depth
     type-check-expression-requires
     length-at-requires
     add-at

@@ -30,24 +30,24 @@ use Rattle.convert.proofs.settle_row.Reads as settle-row-reads
 use Rattle.convert.proofs.type_kind.Reads as type-kind-reads
 use Rattle.node.proofs.bytes.length_at.Reads as length-at-reads
 use Rattle.node.proofs.bytes.word.Reads as word-reads
-use Rattle.state.proofs.make.Reads as make-reads
+use Rattle.walk.proofs.make.Reads as make-reads
 use Rattle.convert.proofs.+convert_array+convert_fields+convert_node_type+convert_pointer+convert_struct.{statement}
 use Rattle.convert.proofs.+convert_array+convert_fields+convert_node_type+convert_pointer+convert_struct.Tie.{close}
 
 abbrev μ-convert-array : Measures 6 convert-array-kinds.ps ℕ
-μ-convert-array κs a = a .1 .1 .1 .1 .0 * 131072
+μ-convert-array κs a = a .1 .1 .1 .0 .depth * 131072
 
 abbrev μ-convert-fields : Measures 6 convert-fields-kinds.ps ℕ
-μ-convert-fields κs a = a .1 .1 .1 .1 .1 .0 * 131072 + (a .1 .1 .1 .1 .0 - a .1 .1 .1 .0) + 1
+μ-convert-fields κs a = a .1 .1 .1 .0 .depth * 131072 + (a .1 .1 .1 .0 .end - a .1 .1 .1 .0 .from) + 1
 
 abbrev μ-convert-node-type : Measures 6 convert-node-type-kinds.ps ℕ
-μ-convert-node-type κs a = a .1 .1 .1 .1 .0 * 131072 + 1
+μ-convert-node-type κs a = a .1 .1 .1 .0 .depth * 131072 + 1
 
 abbrev μ-convert-pointer : Measures 6 convert-pointer-kinds.ps ℕ
-μ-convert-pointer κs a = a .1 .1 .1 .1 .0 * 131072
+μ-convert-pointer κs a = a .1 .1 .1 .0 .depth * 131072
 
 abbrev μ-convert-struct : Measures 6 convert-struct-kinds.ps ℕ
-μ-convert-struct κs a = a .1 .1 .1 .1 .0 * 131072
+μ-convert-struct κs a = a .1 .1 .1 .0 .depth * 131072
 
 abbrev convert-array-at : ℕ → In 6 convert-array-kinds.ps
 convert-array-at t =
@@ -182,16 +182,16 @@ convert-struct-claims t = (
 )
 
 convert-array-add-word : (t : ℕ) → convert-array-lts.Need-add-word (convert-array-claims t) (convert-array-at t) convert-array.Post
-convert-array-add-word t c = omega (arith, heads.bounds _ _ _ (c .before .before .before .before .before .pre .1 .0))
+convert-array-add-word t c = omega (arith, heads.bounds _ _ _ (c .before .before .before .before .before .before .pre .1 .0))
 
 convert-array-word-requires : (t : ℕ) → convert-array-lts.Need-word-requires (convert-array-claims t) (convert-array-at t) convert-array.Post
-convert-array-word-requires t c κs = omega (arith, heads.size-room _ _ _ (c .before .before .before .before .before .pre .1 .0) (c .before .before .before .before .before .pre .1 .1 .0))
+convert-array-word-requires t c κs = omega (arith, heads.size-room _ _ _ (c .before .before .before .before .before .before .pre .1 .0) (c .before .before .before .before .before .before .pre .1 .1 .0))
 
-convert-array-add-convert-node-type : (t : ℕ) → convert-array-lts.Need-add-convert-node-type (convert-array-claims t) (convert-array-at t) convert-array.Post
-convert-array-add-convert-node-type t c = omega (arith, heads.bounds _ _ _ (c .before .before .before .before .before .before .pre .1 .0))
+convert-array-add-at : (t : ℕ) → convert-array-lts.Need-add-at (convert-array-claims t) (convert-array-at t) convert-array.Post
+convert-array-add-at t c = omega (arith, heads.bounds _ _ _ (c .before .before .before .before .before .before .before .before .pre .1 .0))
 
-convert-array-sub-convert-node-type : (t : ℕ) → convert-array-lts.Need-sub-convert-node-type (convert-array-claims t) (convert-array-at t) convert-array.Post
-convert-array-sub-convert-node-type t c = omega (arith, heads.bounds _ _ _ (c .before .before .before .before .before .before .pre .1 .0))
+convert-array-sub-depth : (t : ℕ) → convert-array-lts.Need-sub-depth (convert-array-claims t) (convert-array-at t) convert-array.Post
+convert-array-sub-depth t c = omega (arith, heads.bounds _ _ _ (c .before .before .before .before .before .before .before .before .before .pre .1 .0))
 
 convert-array-convert-node-type-requires :
     (t : ℕ) → convert-array-lts.Need-convert-node-type-requires (
@@ -202,10 +202,10 @@ convert-array-convert-node-type-requires :
       settle-row-reads.Asked,
       settle-row-reads.Learnt,
     ) (convert-array-at t) convert-array.Post
-convert-array-convert-node-type-requires t c κs = (omega (arith, heads.bounds _ _ _ (c .before .before .before .before .before .before .before .before .before .before .pre .1 .0)), (heads.element-fine _ _ _ (c .before .before .before .before .before .before .before .before .before .before .pre .1 .0) (c .before .before .before .before .before .before .before .before .before .before .pre .1 .1 .0), c .before .before .before .before .before .before .before .before .before .before .pre .1 .1 .1))
+convert-array-convert-node-type-requires t c κs = (omega (arith, heads.bounds _ _ _ (c .before .before .before .before .before .before .before .before .before .before .before .before .before .pre .1 .0)), (heads.element-fine _ _ _ (c .before .before .before .before .before .before .before .before .before .before .before .before .before .pre .1 .0) (c .before .before .before .before .before .before .before .before .before .before .before .before .before .pre .1 .1 .0), c .before .before .before .before .before .before .before .before .before .before .before .before .before .pre .1 .1 .1))
 
 convert-array-settle-row-requires : (t : ℕ) → convert-array-lts.Need-settle-row-requires (convert-array-claims t) (convert-array-at t) convert-array.Post
-convert-array-settle-row-requires t c κs = (omega (arith, heads.bounds _ _ _ (c .before .before .before .before .before .before .before .before .before .before .before .before .before .before .before .before .before .before .before .before .before .pre .1 .0), c .before .before .before .before .before .before .before .before .before .before .before .before .before .before .before .before .before .before .before .before .before .pre .1 .1 .1 .long, c .before .before .before .before .before .before .before .before .before .before .convert-node-type .ensures .walked .walked .frame .long), ((c .before .before .before .before .before .before .before .before .before .before .convert-node-type .ensures .walked .walked .grew .good .table, c .before .before .before .before .before .before .before .before .before .before .convert-node-type .ensures .walked .is), c .before .before .before .before .before .before .before .before .before .before .convert-node-type .ensures .walked .walked .grew .good .indexed))
+convert-array-settle-row-requires t c κs = (omega (arith, heads.bounds _ _ _ (c .before .before .before .before .before .before .before .before .before .before .before .before .before .before .before .before .before .before .before .before .before .before .before .before .pre .1 .0), c .before .before .before .before .before .before .before .before .before .before .before .before .before .before .before .before .before .before .before .before .before .before .before .before .pre .1 .1 .1 .long, c .before .before .before .before .before .before .before .before .before .before .convert-node-type .ensures .walked .walked .frame .long), ((c .before .before .before .before .before .before .before .before .before .before .convert-node-type .ensures .walked .walked .grew .good .table, c .before .before .before .before .before .before .before .before .before .before .convert-node-type .ensures .walked .is), c .before .before .before .before .before .before .before .before .before .before .convert-node-type .ensures .walked .walked .grew .good .indexed))
 
 convert-array-same-length : (t : ℕ) → convert-array-lts.Need-same-length (convert-array-claims t) (convert-array-at t) convert-array.Post
 convert-array-same-length t c = search needs
@@ -217,19 +217,19 @@ convert-array-same-length-3 : (t : ℕ) → convert-array-lts.Need-same-length-3
 convert-array-same-length-3 t c = search needs
 
 convert-array-returns : (t : ℕ) → convert-array-lts.Need-returns (convert-array-claims t) (convert-array-at t) convert-array.Post
-convert-array-returns t c = laws.converted-array _ _ _ _ _ (c .before .before .before .before .before .before .before .before .before .before .before .before .before .before .before .before .before .before .before .before .before .before .before .before .before .before .pre .1 .0) _ _ _ _ _ (c .before .before .before .before .before .before .before .before .before .before .before .before .before .before .before .before .before .before .before .before .before .before .before .before .before .before .pre .1 .1 .1) _ _ _ (c .before .before .before .before .before .before .before .before .before .before .before .before .before .before .before .convert-node-type .result) (c .before .before .before .before .before .before .before .before .before .before .before .before .before .before .before .before .before .before .before .before .before .before .before .before .before .before .pre .1 .1 .0) _ (c .before .before .before .before .before .before .before .before .before .before .before .before .before .before .before .before .before .before .before .before .word .ensures) (c .before .before .before .before .before .before .before .before .before .before .before .before .before .before .before .convert-node-type .ensures) _ _ _ (c .before .before .before .before .settle-row .ensures)
+convert-array-returns t c = laws.converted-array _ _ _ _ _ (c .before .before .before .before .before .before .before .before .before .before .before .before .before .before .before .before .before .before .before .before .before .before .before .before .before .before .before .before .before .pre .1 .0) _ _ _ _ _ (c .before .before .before .before .before .before .before .before .before .before .before .before .before .before .before .before .before .before .before .before .before .before .before .before .before .before .before .before .before .pre .1 .1 .1) _ _ _ (c .before .before .before .before .before .before .before .before .before .before .before .before .before .before .before .convert-node-type .result) (c .before .before .before .before .before .before .before .before .before .before .before .before .before .before .before .before .before .before .before .before .before .before .before .before .before .before .before .before .before .pre .1 .1 .0) _ (c .before .before .before .before .before .before .before .before .before .before .before .before .before .before .before .before .before .before .before .before .before .before .word .ensures) (c .before .before .before .before .before .before .before .before .before .before .before .before .before .before .before .convert-node-type .ensures) _ _ _ (c .before .before .before .before .settle-row .ensures)
 
 convert-fields-returns : (t : ℕ) → convert-fields-lts.Need-returns (convert-fields-claims t) (convert-fields-at t) convert-fields.Post
-convert-fields-returns t c = laws.fields-end _ _ _ _ _ _ (c .before .before .before .before .before .before .pre .1 .0) _ _ _ _ _ (c .before .before .before .before .before .before .pre .1 .1) (c .if1 .taken)
+convert-fields-returns t c = laws.fields-end _ _ _ _ _ _ (c .before .before .before .before .before .before .before .pre .1 .0) _ _ _ _ _ (c .before .before .before .before .before .before .before .pre .1 .1) (c .if1 .taken)
 
 convert-fields-field-head-requires : (t : ℕ) → convert-fields-lts.Need-field-head-requires (convert-fields-claims t) (convert-fields-at t) convert-fields.Post
-convert-fields-field-head-requires t c κs = (c .before .before .before .before .before .before .pre .1 .0, c .if1 .left)
+convert-fields-field-head-requires t c κs = (c .before .before .before .before .before .before .before .pre .1 .0, c .if1 .left)
 
-convert-fields-add-convert-node-type : (t : ℕ) → convert-fields-lts.Need-add-convert-node-type (convert-fields-claims t) (convert-fields-at t) convert-fields.Post
-convert-fields-add-convert-node-type t c = search needs
+convert-fields-add-at : (t : ℕ) → convert-fields-lts.Need-add-at (convert-fields-claims t) (convert-fields-at t) convert-fields.Post
+convert-fields-add-at t c = search needs
 
-convert-fields-sub-convert-node-type : (t : ℕ) → convert-fields-lts.Need-sub-convert-node-type (convert-fields-claims t) (convert-fields-at t) convert-fields.Post
-convert-fields-sub-convert-node-type t c = search needs
+convert-fields-sub-level : (t : ℕ) → convert-fields-lts.Need-sub-level (convert-fields-claims t) (convert-fields-at t) convert-fields.Post
+convert-fields-sub-level t c = search needs
 
 convert-fields-convert-node-type-requires :
     (t : ℕ) → convert-fields-lts.Need-convert-node-type-requires (
@@ -242,25 +242,25 @@ convert-fields-convert-node-type-requires :
       make-reads.Asked,
       make-reads.Learnt,
     ) (convert-fields-at t) convert-fields.Post
-convert-fields-convert-node-type-requires t c κs = (omega arith, (heads.type-fine _ _ _ _ (c .before .before .before .before .before .before .before .before .before .before .before .pre .1 .0) (c .before .before .before .before .before .if1 .left), c .before .before .before .before .before .before .before .before .before .before .before .pre .1 .1))
+convert-fields-convert-node-type-requires t c κs = (omega arith, (heads.type-fine _ _ _ _ (c .before .before .before .before .before .before .before .before .before .before .before .before .before .before .pre .1 .0) (c .before .before .before .before .before .before .before .if1 .left), c .before .before .before .before .before .before .before .before .before .before .before .before .before .before .pre .1 .1))
 
 convert-fields-convert-fields-requires : (t : ℕ) → convert-fields-lts.Need-convert-fields-requires (convert-fields-claims t) (convert-fields-at t) convert-fields.Post
-convert-fields-convert-fields-requires t c κs = (omega (arith, c .before .before .before .before .before .before .before .before .before .before .before .before .before .before .before .before .before .before .before .before .before .before .before .pre .0, c .before .before .before .before .before .before .before .before .before .before .before .before .before .before .before .before .field-head .ensures), (heads.rest-fine _ _ _ _ (c .before .before .before .before .before .before .before .before .before .before .before .before .before .before .before .before .before .before .before .before .before .before .before .pre .1 .0) (c .before .before .before .before .before .before .before .before .before .before .before .before .before .before .before .before .before .if1 .left) _ (c .before .before .before .before .before .before .before .before .before .before .before .before .before .before .before .before .field-head .ensures .next), heads.ready-later (c .before .before .before .before .before .before .before .before .before .before .before .before .before .before .before .before .before .before .before .before .before .before .before .pre .1 .1) (c .before .before .before .before .before .before .before .before .before .before .before .convert-node-type .ensures .walked .walked .grew) (c .before .before .before .before .before .before .before .before .before .before .before .convert-node-type .ensures .walked .walked .frame .long)))
+convert-fields-convert-fields-requires t c κs = (omega (arith, c .before .before .before .before .before .before .before .before .before .before .before .before .before .before .before .before .before .before .before .before .before .before .before .before .before .before .pre .0, c .before .before .before .before .before .before .before .before .before .before .before .before .before .before .before .before .before .before .field-head .ensures), (heads.rest-fine _ _ _ _ (c .before .before .before .before .before .before .before .before .before .before .before .before .before .before .before .before .before .before .before .before .before .before .before .before .before .before .pre .1 .0) (c .before .before .before .before .before .before .before .before .before .before .before .before .before .before .before .before .before .before .before .if1 .left) _ (c .before .before .before .before .before .before .before .before .before .before .before .before .before .before .before .before .before .before .field-head .ensures .next), heads.ready-later (c .before .before .before .before .before .before .before .before .before .before .before .before .before .before .before .before .before .before .before .before .before .before .before .before .before .before .pre .1 .1) (c .before .before .before .before .before .before .before .before .before .before .before .convert-node-type .ensures .walked .walked .grew) (c .before .before .before .before .before .before .before .before .before .before .before .convert-node-type .ensures .walked .walked .frame .long)))
 
 convert-fields-make-requires : (t : ℕ) → convert-fields-lts.Need-make-requires (convert-fields-claims t) (convert-fields-at t) convert-fields.Post
-convert-fields-make-requires t c κs = (laws.cell-ok _ _ _ _ _ _ (c .before .before .before .before .before .before .before .before .before .before .before .before .before .before .before .before .before .before .before .before .before .before .before .before .before .before .before .before .before .before .before .before .before .pre .1 .0) _ _ _ _ _ (c .before .before .before .before .before .before .before .before .before .before .before .before .before .before .before .before .before .before .before .before .before .before .before .before .before .before .before .before .before .before .before .before .before .pre .1 .1) (c .before .before .before .before .before .before .before .before .before .before .before .before .before .before .before .before .before .before .before .before .before .before .before .before .before .before .before .if1 .left) _ (c .before .before .before .before .before .before .before .before .before .before .before .before .before .before .before .before .before .before .before .before .before .before .before .before .before .before .field-head .ensures) _ _ _ (c .before .before .before .before .before .before .before .before .before .before .before .before .before .before .before .before .before .before .before .before .before .convert-node-type .result) (c .before .before .before .before .before .before .before .before .before .before .before .before .before .before .before .before .before .before .before .before .before .convert-node-type .ensures) _ _ _ (c .before .before .before .before .before .before .before .before .before .convert-fields .result) (c .before .before .before .before .before .before .before .before .before .convert-fields .ensures), c .before .before .before .before .before .before .before .before .before .convert-fields .ensures .walked .grew .good .indexed)
+convert-fields-make-requires t c κs = (laws.cell-ok _ _ _ _ _ _ (c .before .before .before .before .before .before .before .before .before .before .before .before .before .before .before .before .before .before .before .before .before .before .before .before .before .before .before .before .before .before .before .before .before .before .before .before .pre .1 .0) _ _ _ _ _ (c .before .before .before .before .before .before .before .before .before .before .before .before .before .before .before .before .before .before .before .before .before .before .before .before .before .before .before .before .before .before .before .before .before .before .before .before .pre .1 .1) (c .before .before .before .before .before .before .before .before .before .before .before .before .before .before .before .before .before .before .before .before .before .before .before .before .before .before .before .before .before .if1 .left) _ (c .before .before .before .before .before .before .before .before .before .before .before .before .before .before .before .before .before .before .before .before .before .before .before .before .before .before .before .before .field-head .ensures) _ _ _ (c .before .before .before .before .before .before .before .before .before .before .before .before .before .before .before .before .before .before .before .before .before .convert-node-type .result) (c .before .before .before .before .before .before .before .before .before .before .before .before .before .before .before .before .before .before .before .before .before .convert-node-type .ensures) _ _ _ (c .before .before .before .before .before .before .before .before .before .convert-fields .result) (c .before .before .before .before .before .before .before .before .before .convert-fields .ensures), c .before .before .before .before .before .before .before .before .before .convert-fields .ensures .walked .grew .good .indexed)
 
 convert-fields-same-length : (t : ℕ) → convert-fields-lts.Need-same-length (convert-fields-claims t) (convert-fields-at t) convert-fields.Post
-convert-fields-same-length t c = omega (arith, c .before .before .before .before .before .before .before .before .before .before .before .before .before .before .before .before .before .before .before .before .before .before .before .before .convert-node-type .kept .1 .1 .1 .1 .1 .0, c .before .before .before .before .before .before .before .before .before .before .before .before .convert-fields .kept .1 .1 .1 .1 .1 .1 .0)
+convert-fields-same-length t c = omega (arith, c .before .before .before .before .before .before .before .before .before .before .before .before .before .before .before .before .before .before .before .before .before .before .before .before .convert-node-type .kept .1 .1 .1 .1 .0, c .before .before .before .before .before .before .before .before .before .before .before .before .convert-fields .kept .1 .1 .1 .1 .0)
 
 convert-fields-same-length-2 : (t : ℕ) → convert-fields-lts.Need-same-length-2 (convert-fields-claims t) (convert-fields-at t) convert-fields.Post
-convert-fields-same-length-2 t c = omega (arith, c .before .before .before .before .before .before .before .before .before .before .before .before .before .before .before .before .before .before .before .before .before .before .before .before .convert-node-type .kept .1 .1 .1 .1 .1 .1 .0, c .before .before .before .before .before .before .before .before .before .before .before .before .convert-fields .kept .1 .1 .1 .1 .1 .1 .1 .0)
+convert-fields-same-length-2 t c = omega (arith, c .before .before .before .before .before .before .before .before .before .before .before .before .before .before .before .before .before .before .before .before .before .before .before .before .convert-node-type .kept .1 .1 .1 .1 .1 .0, c .before .before .before .before .before .before .before .before .before .before .before .before .convert-fields .kept .1 .1 .1 .1 .1 .0)
 
 convert-fields-same-length-3 : (t : ℕ) → convert-fields-lts.Need-same-length-3 (convert-fields-claims t) (convert-fields-at t) convert-fields.Post
-convert-fields-same-length-3 t c = omega (arith, c .before .before .before .before .before .before .before .before .before .before .before .before .before .before .before .before .before .before .before .before .before .before .before .before .convert-node-type .kept .1 .1 .1 .1 .1 .1 .1 .0, c .before .before .before .before .before .before .before .before .before .before .before .before .convert-fields .kept .1 .1 .1 .1 .1 .1 .1 .1 .0, c .before .before .make .kept .0)
+convert-fields-same-length-3 t c = omega (arith, c .before .before .before .before .before .before .before .before .before .before .before .before .before .before .before .before .before .before .before .before .before .before .before .before .convert-node-type .kept .1 .1 .1 .1 .1 .1 .0, c .before .before .before .before .before .before .before .before .before .before .before .before .convert-fields .kept .1 .1 .1 .1 .1 .1 .0, c .before .before .make .kept .0)
 
 convert-fields-returns-2 : (t : ℕ) → convert-fields-lts.Need-returns-2 (convert-fields-claims t) (convert-fields-at t) convert-fields.Post
-convert-fields-returns-2 t c = laws.fields-cell _ _ _ _ _ _ (c .before .before .before .before .before .before .before .before .before .before .before .before .before .before .before .before .before .before .before .before .before .before .before .before .before .before .before .before .before .before .before .before .before .before .before .before .pre .1 .0) _ _ _ _ _ (c .before .before .before .before .before .before .before .before .before .before .before .before .before .before .before .before .before .before .before .before .before .before .before .before .before .before .before .before .before .before .before .before .before .before .before .before .pre .1 .1) (c .before .before .before .before .before .before .before .before .before .before .before .before .before .before .before .before .before .before .before .before .before .before .before .before .before .before .before .before .before .before .if1 .left) _ (c .before .before .before .before .before .before .before .before .before .before .before .before .before .before .before .before .before .before .before .before .before .before .before .before .before .before .before .before .before .field-head .ensures) _ _ _ (c .before .before .before .before .before .before .before .before .before .before .before .before .before .before .before .before .before .before .before .before .before .before .before .before .convert-node-type .result) (c .before .before .before .before .before .before .before .before .before .before .before .before .before .before .before .before .before .before .before .before .before .before .before .before .convert-node-type .ensures) _ _ _ (c .before .before .before .before .before .before .before .before .before .before .before .before .convert-fields .result) (c .before .before .before .before .before .before .before .before .before .before .before .before .convert-fields .ensures) _ _ (c .before .before .make .ensures)
+convert-fields-returns-2 t c = laws.fields-cell _ _ _ _ _ _ (c .before .before .before .before .before .before .before .before .before .before .before .before .before .before .before .before .before .before .before .before .before .before .before .before .before .before .before .before .before .before .before .before .before .before .before .before .before .before .before .pre .1 .0) _ _ _ _ _ (c .before .before .before .before .before .before .before .before .before .before .before .before .before .before .before .before .before .before .before .before .before .before .before .before .before .before .before .before .before .before .before .before .before .before .before .before .before .before .before .pre .1 .1) (c .before .before .before .before .before .before .before .before .before .before .before .before .before .before .before .before .before .before .before .before .before .before .before .before .before .before .before .before .before .before .before .before .if1 .left) _ (c .before .before .before .before .before .before .before .before .before .before .before .before .before .before .before .before .before .before .before .before .before .before .before .before .before .before .before .before .before .before .before .field-head .ensures) _ _ _ (c .before .before .before .before .before .before .before .before .before .before .before .before .before .before .before .before .before .before .before .before .before .before .before .before .convert-node-type .result) (c .before .before .before .before .before .before .before .before .before .before .before .before .before .before .before .before .before .before .before .before .before .before .before .before .convert-node-type .ensures) _ _ _ (c .before .before .before .before .before .before .before .before .before .before .before .before .convert-fields .result) (c .before .before .before .before .before .before .before .before .before .before .before .before .convert-fields .ensures) _ _ (c .before .before .make .ensures)
 
 convert-node-type-type-kind-requires : (t : ℕ) → convert-node-type-lts.Need-type-kind-requires (convert-node-type-claims t) (convert-node-type-at t) convert-node-type.Post
 convert-node-type-type-kind-requires t c κs = c .before .before .before .before .before .pre .1 .0
@@ -376,11 +376,11 @@ convert-node-type-same-length-12 t c = search needs
 convert-node-type-returns-5 : (t : ℕ) → convert-node-type-lts.Need-returns-5 (convert-node-type-claims t) (convert-node-type-at t) convert-node-type.Post
 convert-node-type-returns-5 t c = c .before .before .before .before .before .before .convert-struct .ensures
 
-convert-pointer-add-convert-node-type : (t : ℕ) → convert-pointer-lts.Need-add-convert-node-type (convert-pointer-claims t) (convert-pointer-at t) convert-pointer.Post
-convert-pointer-add-convert-node-type t c = omega (arith, heads.bounds _ _ _ (c .before .before .before .before .before .pre .1 .0))
+convert-pointer-add-at : (t : ℕ) → convert-pointer-lts.Need-add-at (convert-pointer-claims t) (convert-pointer-at t) convert-pointer.Post
+convert-pointer-add-at t c = omega (arith, heads.bounds _ _ _ (c .before .before .before .before .before .before .pre .1 .0))
 
-convert-pointer-sub-convert-node-type : (t : ℕ) → convert-pointer-lts.Need-sub-convert-node-type (convert-pointer-claims t) (convert-pointer-at t) convert-pointer.Post
-convert-pointer-sub-convert-node-type t c = omega (arith, heads.bounds _ _ _ (c .before .before .before .before .before .pre .1 .0))
+convert-pointer-sub-depth : (t : ℕ) → convert-pointer-lts.Need-sub-depth (convert-pointer-claims t) (convert-pointer-at t) convert-pointer.Post
+convert-pointer-sub-depth t c = omega (arith, heads.bounds _ _ _ (c .before .before .before .before .before .before .before .pre .1 .0))
 
 convert-pointer-convert-node-type-requires :
     (t : ℕ) → convert-pointer-lts.Need-convert-node-type-requires (
@@ -389,10 +389,10 @@ convert-pointer-convert-node-type-requires :
       settle-row-reads.Asked,
       settle-row-reads.Learnt,
     ) (convert-pointer-at t) convert-pointer.Post
-convert-pointer-convert-node-type-requires t c κs = (omega (arith, heads.bounds _ _ _ (c .before .before .before .before .before .before .before .before .before .pre .1 .0)), (heads.pointee-fine _ _ _ (c .before .before .before .before .before .before .before .before .before .pre .1 .0) (c .before .before .before .before .before .before .before .before .before .pre .1 .1 .0), c .before .before .before .before .before .before .before .before .before .pre .1 .1 .1))
+convert-pointer-convert-node-type-requires t c κs = (omega (arith, heads.bounds _ _ _ (c .before .before .before .before .before .before .before .before .before .before .before .pre .1 .0)), (heads.pointee-fine _ _ _ (c .before .before .before .before .before .before .before .before .before .before .before .pre .1 .0) (c .before .before .before .before .before .before .before .before .before .before .before .pre .1 .1 .0), c .before .before .before .before .before .before .before .before .before .before .before .pre .1 .1 .1))
 
 convert-pointer-settle-row-requires : (t : ℕ) → convert-pointer-lts.Need-settle-row-requires (convert-pointer-claims t) (convert-pointer-at t) convert-pointer.Post
-convert-pointer-settle-row-requires t c κs = (omega (arith, heads.bounds _ _ _ (c .before .before .before .before .before .before .before .before .before .before .before .before .before .before .before .before .before .before .before .before .pre .1 .0), c .before .before .before .before .before .before .before .before .before .before .before .before .before .before .before .before .before .before .before .before .pre .1 .1 .1 .long, c .before .before .before .before .before .before .before .before .before .before .convert-node-type .ensures .walked .walked .frame .long), ((c .before .before .before .before .before .before .before .before .before .before .convert-node-type .ensures .walked .walked .grew .good .table, c .before .before .before .before .before .before .before .before .before .before .convert-node-type .ensures .walked .is), c .before .before .before .before .before .before .before .before .before .before .convert-node-type .ensures .walked .walked .grew .good .indexed))
+convert-pointer-settle-row-requires t c κs = (omega (arith, heads.bounds _ _ _ (c .before .before .before .before .before .before .before .before .before .before .before .before .before .before .before .before .before .before .before .before .before .before .pre .1 .0), c .before .before .before .before .before .before .before .before .before .before .before .before .before .before .before .before .before .before .before .before .before .before .pre .1 .1 .1 .long, c .before .before .before .before .before .before .before .before .before .before .convert-node-type .ensures .walked .walked .frame .long), ((c .before .before .before .before .before .before .before .before .before .before .convert-node-type .ensures .walked .walked .grew .good .table, c .before .before .before .before .before .before .before .before .before .before .convert-node-type .ensures .walked .is), c .before .before .before .before .before .before .before .before .before .before .convert-node-type .ensures .walked .walked .grew .good .indexed))
 
 convert-pointer-same-length : (t : ℕ) → convert-pointer-lts.Need-same-length (convert-pointer-claims t) (convert-pointer-at t) convert-pointer.Post
 convert-pointer-same-length t c = search needs
@@ -404,25 +404,25 @@ convert-pointer-same-length-3 : (t : ℕ) → convert-pointer-lts.Need-same-leng
 convert-pointer-same-length-3 t c = search needs
 
 convert-pointer-returns : (t : ℕ) → convert-pointer-lts.Need-returns (convert-pointer-claims t) (convert-pointer-at t) convert-pointer.Post
-convert-pointer-returns t c = laws.converted-pointer _ _ _ _ _ (c .before .before .before .before .before .before .before .before .before .before .before .before .before .before .before .before .before .before .before .before .before .before .before .before .before .pre .1 .0) _ _ _ _ _ (c .before .before .before .before .before .before .before .before .before .before .before .before .before .before .before .before .before .before .before .before .before .before .before .before .before .pre .1 .1 .1) _ _ _ (c .before .before .before .before .before .before .before .before .before .before .before .before .before .before .before .convert-node-type .result) (c .before .before .before .before .before .before .before .before .before .before .before .before .before .before .before .before .before .before .before .before .before .before .before .before .before .pre .1 .1 .0) (c .before .before .before .before .before .before .before .before .before .before .before .before .before .before .before .convert-node-type .ensures) _ _ _ (c .before .before .before .before .settle-row .ensures)
+convert-pointer-returns t c = laws.converted-pointer _ _ _ _ _ (c .before .before .before .before .before .before .before .before .before .before .before .before .before .before .before .before .before .before .before .before .before .before .before .before .before .before .before .pre .1 .0) _ _ _ _ _ (c .before .before .before .before .before .before .before .before .before .before .before .before .before .before .before .before .before .before .before .before .before .before .before .before .before .before .before .pre .1 .1 .1) _ _ _ (c .before .before .before .before .before .before .before .before .before .before .before .before .before .before .before .convert-node-type .result) (c .before .before .before .before .before .before .before .before .before .before .before .before .before .before .before .before .before .before .before .before .before .before .before .before .before .before .before .pre .1 .1 .0) (c .before .before .before .before .before .before .before .before .before .before .before .before .before .before .before .convert-node-type .ensures) _ _ _ (c .before .before .before .before .settle-row .ensures)
 
 convert-struct-length-at-requires : (t : ℕ) → convert-struct-lts.Need-length-at-requires (convert-struct-claims t) (convert-struct-at t) convert-struct.Post
 convert-struct-length-at-requires t c κs = omega (arith, heads.bounds _ _ _ (c .before .before .before .before .before .pre .1 .0))
 
-convert-struct-add-stop : (t : ℕ) → convert-struct-lts.Need-add-stop (convert-struct-claims t) (convert-struct-at t) convert-struct.Post
-convert-struct-add-stop t c = omega (arith, heads.bounds _ _ _ (c .before .before .before .before .before .before .pre .1 .0), c .length-at .ensures)
+convert-struct-add-end : (t : ℕ) → convert-struct-lts.Need-add-end (convert-struct-claims t) (convert-struct-at t) convert-struct.Post
+convert-struct-add-end t c = omega (arith, heads.bounds _ _ _ (c .before .before .before .before .before .before .before .pre .1 .0), c .before .length-at .ensures)
 
-convert-struct-add-convert-fields : (t : ℕ) → convert-struct-lts.Need-add-convert-fields (convert-struct-claims t) (convert-struct-at t) convert-struct.Post
-convert-struct-add-convert-fields t c = omega (arith, heads.bounds _ _ _ (c .before .before .before .before .before .before .pre .1 .0))
+convert-struct-add-from : (t : ℕ) → convert-struct-lts.Need-add-from (convert-struct-claims t) (convert-struct-at t) convert-struct.Post
+convert-struct-add-from t c = omega (arith, heads.bounds _ _ _ (c .before .before .before .before .before .before .before .before .pre .1 .0))
 
-convert-struct-sub-convert-fields : (t : ℕ) → convert-struct-lts.Need-sub-convert-fields (convert-struct-claims t) (convert-struct-at t) convert-struct.Post
-convert-struct-sub-convert-fields t c = omega (arith, heads.bounds _ _ _ (c .before .before .before .before .before .before .pre .1 .0))
+convert-struct-sub-depth : (t : ℕ) → convert-struct-lts.Need-sub-depth (convert-struct-claims t) (convert-struct-at t) convert-struct.Post
+convert-struct-sub-depth t c = omega (arith, heads.bounds _ _ _ (c .before .before .before .before .before .before .before .before .before .pre .1 .0))
 
 convert-struct-convert-fields-requires : (t : ℕ) → convert-struct-lts.Need-convert-fields-requires (convert-struct-claims t) (convert-struct-at t) convert-struct.Post
-convert-struct-convert-fields-requires t c κs = (omega (arith, heads.bounds _ _ _ (c .before .before .before .before .before .before .before .before .before .before .pre .1 .0), c .before .before .before .before .length-at .ensures), (heads.fields-fine _ _ _ (c .before .before .before .before .before .before .before .before .before .before .pre .1 .0) (c .before .before .before .before .before .before .before .before .before .before .pre .1 .1 .0) _ (c .before .before .before .before .length-at .ensures), c .before .before .before .before .before .before .before .before .before .before .pre .1 .1 .1))
+convert-struct-convert-fields-requires t c κs = (omega (arith, heads.bounds _ _ _ (c .before .before .before .before .before .before .before .before .before .before .before .before .before .pre .1 .0), c .before .before .before .before .before .before .before .length-at .ensures), (heads.fields-fine _ _ _ (c .before .before .before .before .before .before .before .before .before .before .before .before .before .pre .1 .0) (c .before .before .before .before .before .before .before .before .before .before .before .before .before .pre .1 .1 .0) _ (c .before .before .before .before .before .before .before .length-at .ensures), c .before .before .before .before .before .before .before .before .before .before .before .before .before .pre .1 .1 .1))
 
 convert-struct-settle-row-requires : (t : ℕ) → convert-struct-lts.Need-settle-row-requires (convert-struct-claims t) (convert-struct-at t) convert-struct.Post
-convert-struct-settle-row-requires t c κs = (omega (arith, heads.bounds _ _ _ (c .before .before .before .before .before .before .before .before .before .before .before .before .before .before .before .before .before .before .before .before .before .pre .1 .0), c .before .before .before .before .before .before .before .before .before .before .before .before .before .before .before .before .before .before .before .before .before .pre .1 .1 .1 .long, c .before .before .before .before .before .before .before .before .before .before .convert-fields .ensures .walked .frame .long), ((c .before .before .before .before .before .before .before .before .before .before .convert-fields .ensures .walked .grew .good .table, c .before .before .before .before .before .before .before .before .before .before .convert-fields .ensures .is), c .before .before .before .before .before .before .before .before .before .before .convert-fields .ensures .walked .grew .good .indexed))
+convert-struct-settle-row-requires t c κs = (omega (arith, heads.bounds _ _ _ (c .before .before .before .before .before .before .before .before .before .before .before .before .before .before .before .before .before .before .before .before .before .before .before .before .pre .1 .0), c .before .before .before .before .before .before .before .before .before .before .before .before .before .before .before .before .before .before .before .before .before .before .before .before .pre .1 .1 .1 .long, c .before .before .before .before .before .before .before .before .before .before .convert-fields .ensures .walked .frame .long), ((c .before .before .before .before .before .before .before .before .before .before .convert-fields .ensures .walked .grew .good .table, c .before .before .before .before .before .before .before .before .before .before .convert-fields .ensures .is), c .before .before .before .before .before .before .before .before .before .before .convert-fields .ensures .walked .grew .good .indexed))
 
 convert-struct-same-length : (t : ℕ) → convert-struct-lts.Need-same-length (convert-struct-claims t) (convert-struct-at t) convert-struct.Post
 convert-struct-same-length t c = search needs
@@ -434,7 +434,7 @@ convert-struct-same-length-3 : (t : ℕ) → convert-struct-lts.Need-same-length
 convert-struct-same-length-3 t c = search needs
 
 convert-struct-returns : (t : ℕ) → convert-struct-lts.Need-returns (convert-struct-claims t) (convert-struct-at t) convert-struct.Post
-convert-struct-returns t c = laws.converted-struct _ _ _ _ _ (c .before .before .before .before .before .before .before .before .before .before .before .before .before .before .before .before .before .before .before .before .before .before .before .before .before .before .pre .1 .0) _ _ _ _ _ (c .before .before .before .before .before .before .before .before .before .before .before .before .before .before .before .before .before .before .before .before .before .before .before .before .before .before .pre .1 .1 .1) _ _ _ (c .before .before .before .before .before .before .before .before .before .before .before .before .before .before .before .convert-fields .result) (c .before .before .before .before .before .before .before .before .before .before .before .before .before .before .before .before .before .before .before .before .before .before .before .before .before .before .pre .1 .1 .0) _ (c .before .before .before .before .before .before .before .before .before .before .before .before .before .before .before .before .before .before .before .before .length-at .ensures) (c .before .before .before .before .before .before .before .before .before .before .before .before .before .before .before .convert-fields .ensures) _ _ _ (c .before .before .before .before .settle-row .ensures)
+convert-struct-returns t c = laws.converted-struct _ _ _ _ _ (c .before .before .before .before .before .before .before .before .before .before .before .before .before .before .before .before .before .before .before .before .before .before .before .before .before .before .before .before .before .pre .1 .0) _ _ _ _ _ (c .before .before .before .before .before .before .before .before .before .before .before .before .before .before .before .before .before .before .before .before .before .before .before .before .before .before .before .before .before .pre .1 .1 .1) _ _ _ (c .before .before .before .before .before .before .before .before .before .before .before .before .before .before .before .convert-fields .result) (c .before .before .before .before .before .before .before .before .before .before .before .before .before .before .before .before .before .before .before .before .before .before .before .before .before .before .before .before .before .pre .1 .1 .0) _ (c .before .before .before .before .before .before .before .before .before .before .before .before .before .before .before .before .before .before .before .before .before .before .before .length-at .ensures) (c .before .before .before .before .before .before .before .before .before .before .before .before .before .before .before .convert-fields .ensures) _ _ _ (c .before .before .before .before .settle-row .ensures)
 
 pub +convert-array+convert-fields+convert-node-type+convert-pointer+convert-struct-spec :
     {M : Type 1} → statement M
@@ -457,8 +457,8 @@ pub +convert-array+convert-fields+convert-node-type+convert-pointer+convert-stru
     convert-array.Post
     (convert-array-add-word t)
     (convert-array-word-requires t)
-    (convert-array-add-convert-node-type t)
-    (convert-array-sub-convert-node-type t)
+    (convert-array-add-at t)
+    (convert-array-sub-depth t)
     (convert-array-convert-node-type-requires t)
     (convert-array-settle-row-requires t)
     (convert-array-same-length t)
@@ -479,8 +479,8 @@ pub +convert-array+convert-fields+convert-node-type+convert-pointer+convert-stru
     convert-fields.Post
     (convert-fields-returns t)
     (convert-fields-field-head-requires t)
-    (convert-fields-add-convert-node-type t)
-    (convert-fields-sub-convert-node-type t)
+    (convert-fields-add-at t)
+    (convert-fields-sub-level t)
     (convert-fields-convert-node-type-requires t)
     (convert-fields-convert-fields-requires t)
     (convert-fields-make-requires t)
@@ -536,8 +536,8 @@ pub +convert-array+convert-fields+convert-node-type+convert-pointer+convert-stru
     )
     (convert-pointer-at t)
     convert-pointer.Post
-    (convert-pointer-add-convert-node-type t)
-    (convert-pointer-sub-convert-node-type t)
+    (convert-pointer-add-at t)
+    (convert-pointer-sub-depth t)
     (convert-pointer-convert-node-type-requires t)
     (convert-pointer-settle-row-requires t)
     (convert-pointer-same-length t)
@@ -555,9 +555,9 @@ pub +convert-array+convert-fields+convert-node-type+convert-pointer+convert-stru
     (convert-struct-at t)
     convert-struct.Post
     (convert-struct-length-at-requires t)
-    (convert-struct-add-stop t)
-    (convert-struct-add-convert-fields t)
-    (convert-struct-sub-convert-fields t)
+    (convert-struct-add-end t)
+    (convert-struct-add-from t)
+    (convert-struct-sub-depth t)
     (convert-struct-convert-fields-requires t)
     (convert-struct-settle-row-requires t)
     (convert-struct-same-length t)

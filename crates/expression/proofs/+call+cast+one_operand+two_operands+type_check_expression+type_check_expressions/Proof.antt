@@ -2,11 +2,12 @@
 -- The measure is four times the levels left, and a rank: a list, then an expression, then the function of its shape.
 -- The loop: what is left to do does what is left of the whole. Assumes nothing.
 use Rattle.expression.proofs.Lists as lists
+use Rattle.convert.proofs.Heads.{ready-later}
 use Rattle.expression.proofs.Laws as laws
 use Rattle.expression.proofs.Heads as heads
-use Rattle.state.specs.Represents.{lent}
+use Rattle.walk.specs.Represents.{lent}
 use lib.ListN.{length}
-use mathlib.Core.Path.{_≡_, refl}
+use mathlib.Core.Path.{_≡_, refl, sym, _∙_}
 use native.Mathlib.Omega.{arith}
 use borrow.Author.Needs.{needs}
 use Prim.Native.Nat.{ℕ, _+_, _-_, _*_, _<_}
@@ -31,35 +32,36 @@ use Rattle.expression.proofs.type_check_expressions.Reads as type-check
 use Rattle.expression.proofs.type_check_expressions.Kinds as type-check-expressions-kinds
 use Rattle.expression.proofs.+call+cast+one_operand+two_operands+type_check_expression+type_check_expressions.Lts-type_check_expressions as type-check-expressions-lts
 use Rattle.convert.proofs.convert_node_type.Reads as convert-node-type-reads
+use Rattle.expression.proofs.has_one_operand.Reads as has-one-operand-reads
 use Rattle.expression.proofs.leaf.Reads as leaf-reads
 use Rattle.expression.proofs.sizeof.Reads as sizeof-reads
-use Rattle.lists.proofs.call_result.Reads as call-result-reads
+use Rattle.call_rules.proofs.call_result.Reads as call-result-reads
 use Rattle.node.proofs.bytes.length_at.Reads as length-at-reads
 use Rattle.node.proofs.fine.enter.Reads as enter-reads
-use Rattle.rules.proofs.binary.Reads as binary-reads
-use Rattle.rules.proofs.cast.Reads as cast-reads
-use Rattle.rules.proofs.unary.Reads as unary-reads
-use Rattle.state.proofs.put_slot.Reads as put-slot-reads
+use Rattle.expression_rules.proofs.binary.Reads as binary-reads
+use Rattle.expression_rules.proofs.cast.Reads as cast-reads
+use Rattle.expression_rules.proofs.unary.Reads as unary-reads
+use Rattle.walk.proofs.put_slot.Reads as put-slot-reads
 use Rattle.expression.proofs.+call+cast+one_operand+two_operands+type_check_expression+type_check_expressions.{statement}
 use Rattle.expression.proofs.+call+cast+one_operand+two_operands+type_check_expression+type_check_expressions.Tie.{close}
 
 abbrev μ-call : Measures 6 call-kinds.ps ℕ
-μ-call κs a = 4 * a .1 .1 .1 .1 .0 + 1
+μ-call κs a = 4 * a .1 .1 .1 .0 .depth + 1
 
 abbrev μ-cast : Measures 6 cast-kinds.ps ℕ
-μ-cast κs a = 4 * a .1 .1 .1 .1 .0 + 1
+μ-cast κs a = 4 * a .1 .1 .1 .0 .depth + 1
 
 abbrev μ-one-operand : Measures 6 one-operand-kinds.ps ℕ
-μ-one-operand κs a = 4 * a .1 .1 .1 .1 .0 + 1
+μ-one-operand κs a = 4 * a .1 .1 .1 .0 .depth + 1
 
 abbrev μ-two-operands : Measures 6 two-operands-kinds.ps ℕ
-μ-two-operands κs a = 4 * a .1 .1 .1 .1 .0 + 1
+μ-two-operands κs a = 4 * a .1 .1 .1 .0 .depth + 1
 
 abbrev μ-type-check-expression : Measures 6 type-check-expression-kinds.ps ℕ
-μ-type-check-expression κs a = 4 * a .1 .1 .1 .1 .0 + 2
+μ-type-check-expression κs a = 4 * a .1 .1 .1 .0 .depth + 2
 
 abbrev μ-type-check-expressions : Measures 6 type-check-expressions-kinds.ps ℕ
-μ-type-check-expressions κs a = 4 * a .1 .1 .1 .1 .1 .0 + 3
+μ-type-check-expressions κs a = 4 * a .1 .1 .1 .0 .depth + 3
 
 abbrev call-at : ℕ → In 6 call-kinds.ps
 call-at t = and 6 call-kinds.ps (is 6 call-kinds.ps μ-call t) call.Pre
@@ -183,14 +185,16 @@ type-check-expression-claims t = (
   leaf-reads.Learnt,
   call-below t,
   call.Post,
-  two-operands-below t,
-  two-operands.Post,
   cast-below t,
   cast.Post,
   sizeof-reads.Asked,
   sizeof-reads.Learnt,
+  has-one-operand-reads.Asked,
+  has-one-operand-reads.Learnt,
   one-operand-below t,
   one-operand.Post,
+  two-operands-below t,
+  two-operands.Post,
 )
 
 abbrev type-check-expressions-claims : ℕ → type-check-expressions-lts.Claims
@@ -201,86 +205,86 @@ type-check-expressions-claims t = (
   length-at-reads.Learnt,
 )
 
-call-add-first : (t : ℕ) → call-lts.Need-add-first (call-claims t) (call-at t) call.Post
-call-add-first t c = omega (arith, heads.slot-room (c .before .before .before .before .before .pre .1 .0 .0), heads.few (c .before .before .before .before .before .pre .1 .0 .0))
+call-add-at : (t : ℕ) → call-lts.Need-add-at (call-claims t) (call-at t) call.Post
+call-add-at t c = omega (arith, heads.slot-room (c .before .before .before .before .before .before .pre .1 .0 .0), heads.few (c .before .before .before .before .before .before .pre .1 .0 .0))
 
-call-sub-inner : (t : ℕ) → call-lts.Need-sub-inner (call-claims t) (call-at t) call.Post
-call-sub-inner t c = omega (arith, heads.deep (c .before .before .before .before .before .pre .1 .0 .0))
+call-sub-depth : (t : ℕ) → call-lts.Need-sub-depth (call-claims t) (call-at t) call.Post
+call-sub-depth t c = omega (arith, heads.deep (c .before .before .before .before .before .before .before .pre .1 .0 .0))
 
 call-type-check-expression-requires : (t : ℕ) → call-lts.Need-type-check-expression-requires (call-claims t) (call-at t) call.Post
-call-type-check-expression-requires t c κs = (omega (arith, c .before .before .before .before .before .before .before .before .before .pre .0, heads.deep (c .before .before .before .before .before .before .before .before .before .pre .1 .0 .0)), (heads.target-fine (c .before .before .before .before .before .before .before .before .before .pre .1 .0 .0) (c .before .before .before .before .before .before .before .before .before .pre .1 .0 .1), c .before .before .before .before .before .before .before .before .before .pre .1 .1))
+call-type-check-expression-requires t c κs = (omega (arith, c .before .before .before .before .before .before .before .before .before .before .before .pre .0, heads.deep (c .before .before .before .before .before .before .before .before .before .before .before .pre .1 .0 .0)), (heads.target-fine (c .before .before .before .before .before .before .before .before .before .before .before .pre .1 .0 .0) (c .before .before .before .before .before .before .before .before .before .before .before .pre .1 .0 .1), c .before .before .before .before .before .before .before .before .before .before .before .pre .1 .1))
 
 call-length-at-requires : (t : ℕ) → call-lts.Need-length-at-requires (call-claims t) (call-at t) call.Post
-call-length-at-requires t c κs = omega (arith, heads.slot-room (heads.target-fine (c .before .before .before .before .before .before .before .before .before .before .before .before .before .before .before .before .before .pre .1 .0 .0) (c .before .before .before .before .before .before .before .before .before .before .before .before .before .before .before .before .before .pre .1 .0 .1)))
+call-length-at-requires t c κs = omega (arith, heads.slot-room (heads.target-fine (c .before .before .before .before .before .before .before .before .before .before .before .before .before .before .before .before .before .before .before .pre .1 .0 .0) (c .before .before .before .before .before .before .before .before .before .before .before .before .before .before .before .before .before .before .before .pre .1 .0 .1)))
 
 call-add-from : (t : ℕ) → call-lts.Need-add-from (call-claims t) (call-at t) call.Post
-call-add-from t c = omega (arith, heads.stop-room (heads.target-fine (c .before .before .before .before .before .before .before .before .before .before .before .before .before .before .before .before .before .before .pre .1 .0 .0) (c .before .before .before .before .before .before .before .before .before .before .before .before .before .before .before .before .before .before .pre .1 .0 .1)), heads.few (c .before .before .before .before .before .before .before .before .before .before .before .before .before .before .before .before .before .before .pre .1 .0 .0), c .length-at .ensures .is)
+call-add-from t c = omega (arith, heads.stop-room (heads.target-fine (c .before .before .before .before .before .before .before .before .before .before .before .before .before .before .before .before .before .before .before .before .pre .1 .0 .0) (c .before .before .before .before .before .before .before .before .before .before .before .before .before .before .before .before .before .before .before .before .pre .1 .0 .1)), heads.few (c .before .before .before .before .before .before .before .before .before .before .before .before .before .before .before .before .before .before .before .before .pre .1 .0 .0), c .length-at .ensures .is)
 
 call-length-at-requires-2 : (t : ℕ) → call-lts.Need-length-at-requires-2 (call-claims t) (call-at t) call.Post
-call-length-at-requires-2 t c κs = omega (arith, heads.slot-room (c .before .before .before .before .before .before .before .before .before .before .before .before .before .before .before .before .before .before .pre .1 .0 .0))
+call-length-at-requires-2 t c κs = omega (arith, heads.slot-room (c .before .before .before .before .before .before .before .before .before .before .before .before .before .before .before .before .before .before .before .before .pre .1 .0 .0))
 
-call-add-stop : (t : ℕ) → call-lts.Need-add-stop (call-claims t) (call-at t) call.Post
-call-add-stop t c = omega (arith, heads.stop-room (c .before .before .before .before .before .before .before .before .before .before .before .before .before .before .before .before .before .before .before .pre .1 .0 .0), heads.few (c .before .before .before .before .before .before .before .before .before .before .before .before .before .before .before .before .before .before .before .pre .1 .0 .0), c .length-at2 .ensures .is)
+call-add-end : (t : ℕ) → call-lts.Need-add-end (call-claims t) (call-at t) call.Post
+call-add-end t c = omega (arith, heads.stop-room (c .before .before .before .before .before .before .before .before .before .before .before .before .before .before .before .before .before .before .before .before .before .before .pre .1 .0 .0), heads.few (c .before .before .before .before .before .before .before .before .before .before .before .before .before .before .before .before .before .before .before .before .before .before .pre .1 .0 .0), c .before .length-at2 .ensures .is)
 
 call-type-check-expressions-requires : (t : ℕ) → call-lts.Need-type-check-expressions-requires (call-claims t) (call-at t) call.Post
-call-type-check-expressions-requires t c κs = (omega (arith, c .before .before .before .before .before .before .before .before .before .before .before .before .before .before .before .before .before .before .before .before .before .before .before .pre .0, heads.deep (c .before .before .before .before .before .before .before .before .before .before .before .before .before .before .before .before .before .before .before .before .before .before .before .pre .1 .0 .0)), (heads.arguments-fine (c .before .before .before .before .before .before .before .before .before .before .before .before .before .before .before .before .before .before .before .before .before .before .before .pre .1 .0 .0) (c .before .before .before .before .before .before .before .before .before .before .before .before .before .before .before .before .before .before .before .before .before .before .before .pre .1 .0 .1) _ _ (heads.stops-at _ _ _ (c .before .before .before .before .before .length-at .ensures)) (heads.stops-at _ _ _ (c .before .before .before .before .length-at2 .ensures)), laws.ready-later (c .before .before .before .before .before .before .before .before .before .before .before .before .before .before .before .before .before .before .before .before .before .before .before .pre .1 .1) (c .before .before .before .before .before .before .before .before .before .before .before .before .before .type-check-expression .ensures .walked .walked .grew) (c .before .before .before .before .before .before .before .before .before .before .before .before .before .type-check-expression .ensures .walked .walked .frame .long)))
+call-type-check-expressions-requires t c κs = (omega (arith, c .before .before .before .before .before .before .before .before .before .before .before .before .before .before .before .before .before .before .before .before .before .before .before .before .before .before .pre .0, heads.deep (c .before .before .before .before .before .before .before .before .before .before .before .before .before .before .before .before .before .before .before .before .before .before .before .before .before .before .pre .1 .0 .0)), (heads.arguments-fine (c .before .before .before .before .before .before .before .before .before .before .before .before .before .before .before .before .before .before .before .before .before .before .before .before .before .before .pre .1 .0 .0) (c .before .before .before .before .before .before .before .before .before .before .before .before .before .before .before .before .before .before .before .before .before .before .before .before .before .before .pre .1 .0 .1) _ _ (heads.stops-at _ _ _ (c .before .before .before .before .before .before .length-at .ensures)) (heads.stops-at _ _ _ (c .before .before .before .before .before .length-at2 .ensures)), ready-later (c .before .before .before .before .before .before .before .before .before .before .before .before .before .before .before .before .before .before .before .before .before .before .before .before .before .before .pre .1 .1) (c .before .before .before .before .before .before .before .before .before .before .before .before .before .before .type-check-expression .ensures .walked .walked .grew) (c .before .before .before .before .before .before .before .before .before .before .before .before .before .before .type-check-expression .ensures .walked .walked .frame .long)))
 
 call-call-result-requires : (t : ℕ) → call-lts.Need-call-result-requires (call-claims t) (call-at t) call.Post
-call-call-result-requires t c κs = (omega (arith, heads.slot-room (c .before .before .before .before .before .before .before .before .before .before .before .before .before .before .before .before .before .before .before .before .before .before .before .before .before .before .before .before .before .before .before .before .before .pre .1 .0 .0)), c .before .before .before .before .before .before .before .before .before .type-check-expressions .ensures .filled, laws.one-type (c .before .before .before .before .before .before .before .before .before .type-check-expressions .ensures .walked .grew .good) (laws.type-later (c .before .before .before .before .before .before .before .before .before .type-check-expressions .ensures .walked .grew) (c .before .before .before .before .before .before .before .before .before .before .before .before .before .before .before .before .before .before .before .before .before .before .before .type-check-expression .ensures .walked .is)))
+call-call-result-requires t c κs = (omega (arith, heads.slot-room (c .before .before .before .before .before .before .before .before .before .before .before .before .before .before .before .before .before .before .before .before .before .before .before .before .before .before .before .before .before .before .before .before .before .before .before .before .pre .1 .0 .0)), c .before .before .before .before .before .before .before .before .before .type-check-expressions .ensures .filled, laws.one-type (c .before .before .before .before .before .before .before .before .before .type-check-expressions .ensures .walked .grew .good) (laws.type-later (c .before .before .before .before .before .before .before .before .before .type-check-expressions .ensures .walked .grew) (c .before .before .before .before .before .before .before .before .before .before .before .before .before .before .before .before .before .before .before .before .before .before .before .before .type-check-expression .ensures .walked .is)))
 
 call-put-slot-requires : (t : ℕ) → call-lts.Need-put-slot-requires (call-claims t) (call-at t) call.Post
-call-put-slot-requires t c κs = omega (arith, heads.slot-room (c .before .before .before .before .before .before .before .before .before .before .before .before .before .before .before .before .before .before .before .before .before .before .before .before .before .before .before .before .before .before .before .before .before .before .before .before .before .pre .1 .0 .0), (c .before .before .before .before .before .before .before .before .before .before .before .before .before .before .before .before .before .before .before .before .before .before .before .before .before .before .before .before .before .before .before .before .before .before .before .before .before .pre .1 .1) .long, c .before .before .before .before .before .before .before .before .before .before .before .before .before .before .before .before .before .before .before .before .before .before .before .before .before .before .before .type-check-expression .ensures .walked .walked .frame .long, c .before .before .before .before .before .before .before .before .before .before .before .before .before .type-check-expressions .ensures .walked .frame .long)
+call-put-slot-requires t c κs = omega (arith, heads.slot-room (c .before .before .before .before .before .before .before .before .before .before .before .before .before .before .before .before .before .before .before .before .before .before .before .before .before .before .before .before .before .before .before .before .before .before .before .before .before .before .before .before .pre .1 .0 .0), (c .before .before .before .before .before .before .before .before .before .before .before .before .before .before .before .before .before .before .before .before .before .before .before .before .before .before .before .before .before .before .before .before .before .before .before .before .before .before .before .before .pre .1 .1) .long, c .before .before .before .before .before .before .before .before .before .before .before .before .before .before .before .before .before .before .before .before .before .before .before .before .before .before .before .before .type-check-expression .ensures .walked .walked .frame .long, c .before .before .before .before .before .before .before .before .before .before .before .before .before .type-check-expressions .ensures .walked .frame .long)
 
 call-same-length : (t : ℕ) → call-lts.Need-same-length (call-claims t) (call-at t) call.Post
-call-same-length t c = omega (arith, c .before .before .before .before .before .before .before .before .before .before .before .before .before .before .before .before .before .before .before .before .before .before .before .before .before .before .before .before .before .before .type-check-expression .kept .1 .1 .1 .1 .1 .0, c .before .before .before .before .before .before .before .before .before .before .before .before .before .before .before .before .type-check-expressions .kept .1 .1 .1 .1 .1 .1 .0, c .before .before .put-slot .kept .0)
+call-same-length t c = omega (arith, c .before .before .before .before .before .before .before .before .before .before .before .before .before .before .before .before .before .before .before .before .before .before .before .before .before .before .before .before .before .before .before .type-check-expression .kept .1 .1 .1 .1 .0, c .before .before .before .before .before .before .before .before .before .before .before .before .before .before .before .before .type-check-expressions .kept .1 .1 .1 .1 .0, c .before .before .put-slot .kept .0)
 
 call-same-length-2 : (t : ℕ) → call-lts.Need-same-length-2 (call-claims t) (call-at t) call.Post
-call-same-length-2 t c = omega (arith, c .before .before .before .before .before .before .before .before .before .before .before .before .before .before .before .before .before .before .before .before .before .before .before .before .before .before .before .before .before .before .type-check-expression .kept .1 .1 .1 .1 .1 .1 .0, c .before .before .before .before .before .before .before .before .before .before .before .before .before .before .before .before .type-check-expressions .kept .1 .1 .1 .1 .1 .1 .1 .0, c .before .before .before .before .before .before .call-result .kept .1 .1 .1 .1 .1 .1 .0)
+call-same-length-2 t c = omega (arith, c .before .before .before .before .before .before .before .before .before .before .before .before .before .before .before .before .before .before .before .before .before .before .before .before .before .before .before .before .before .before .before .type-check-expression .kept .1 .1 .1 .1 .1 .0, c .before .before .before .before .before .before .before .before .before .before .before .before .before .before .before .before .type-check-expressions .kept .1 .1 .1 .1 .1 .0, c .before .before .before .before .before .before .call-result .kept .1 .1 .1 .1 .1 .1 .0)
 
 call-same-length-3 : (t : ℕ) → call-lts.Need-same-length-3 (call-claims t) (call-at t) call.Post
-call-same-length-3 t c = omega (arith, c .before .before .before .before .before .before .before .before .before .before .before .before .before .before .before .before .before .before .before .before .before .before .before .before .before .before .before .before .before .before .type-check-expression .kept .1 .1 .1 .1 .1 .1 .1 .0, c .before .before .before .before .before .before .before .before .before .before .before .before .before .before .before .before .type-check-expressions .kept .1 .1 .1 .1 .1 .1 .1 .1 .0)
+call-same-length-3 t c = omega (arith, c .before .before .before .before .before .before .before .before .before .before .before .before .before .before .before .before .before .before .before .before .before .before .before .before .before .before .before .before .before .before .before .type-check-expression .kept .1 .1 .1 .1 .1 .1 .0, c .before .before .before .before .before .before .before .before .before .before .before .before .before .before .before .before .type-check-expressions .kept .1 .1 .1 .1 .1 .1 .0)
 
 call-returns : (t : ℕ) → call-lts.Need-returns (call-claims t) (call-at t) call.Post
-call-returns t c = lists.call-carried (c .before .before .before .before .before .before .before .before .before .before .before .before .before .before .before .before .before .before .before .before .before .before .before .before .before .before .before .before .before .before .before .before .before .before .before .before .before .before .before .before .pre .1 .0 .0) (c .before .before .before .before .before .before .before .before .before .before .before .before .before .before .before .before .before .before .before .before .before .before .before .before .before .before .before .before .before .before .before .before .before .before .before .before .before .before .before .before .pre .1 .0 .1) (c .before .before .before .before .before .before .before .before .before .before .before .before .before .before .before .before .before .before .before .before .before .before .before .before .before .before .before .before .before .before .before .before .before .before .before .before .before .before .before .before .pre .1 .1) (c .before .before .before .before .before .before .before .before .before .before .before .before .before .before .before .before .before .before .before .before .before .before .before .before .before .before .before .before .before .before .type-check-expression .ensures) _ _ (heads.stops-at _ _ _ (c .before .before .before .before .before .before .before .before .before .before .before .before .before .before .before .before .before .before .before .before .before .before .length-at .ensures)) (heads.stops-at _ _ _ (c .before .before .before .before .before .before .before .before .before .before .before .before .before .before .before .before .before .before .before .before .before .length-at2 .ensures)) (c .before .before .before .before .before .before .before .before .before .before .before .before .before .before .before .before .type-check-expressions .ensures) _ (c .before .before .before .before .before .before .call-result .ensures) _ (c .before .before .put-slot .ensures)
+call-returns t c = lists.call-carried (c .before .before .before .before .before .before .before .before .before .before .before .before .before .before .before .before .before .before .before .before .before .before .before .before .before .before .before .before .before .before .before .before .before .before .before .before .before .before .before .before .before .before .before .pre .1 .0 .0) (c .before .before .before .before .before .before .before .before .before .before .before .before .before .before .before .before .before .before .before .before .before .before .before .before .before .before .before .before .before .before .before .before .before .before .before .before .before .before .before .before .before .before .before .pre .1 .0 .1) (c .before .before .before .before .before .before .before .before .before .before .before .before .before .before .before .before .before .before .before .before .before .before .before .before .before .before .before .before .before .before .before .before .before .before .before .before .before .before .before .before .before .before .before .pre .1 .1) (c .before .before .before .before .before .before .before .before .before .before .before .before .before .before .before .before .before .before .before .before .before .before .before .before .before .before .before .before .before .before .before .type-check-expression .ensures) _ _ (heads.stops-at _ _ _ (c .before .before .before .before .before .before .before .before .before .before .before .before .before .before .before .before .before .before .before .before .before .before .before .length-at .ensures)) (heads.stops-at _ _ _ (c .before .before .before .before .before .before .before .before .before .before .before .before .before .before .before .before .before .before .before .before .before .before .length-at2 .ensures)) (c .before .before .before .before .before .before .before .before .before .before .before .before .before .before .before .before .type-check-expressions .ensures) _ (c .before .before .before .before .before .before .call-result .ensures) _ (c .before .before .put-slot .ensures)
 
-cast-add-first : (t : ℕ) → cast-lts.Need-add-first (cast-claims t) (cast-at t) cast.Post
-cast-add-first t c = omega (arith, heads.slot-room (c .before .before .before .before .before .pre .1 .0 .0), heads.few (c .before .before .before .before .before .pre .1 .0 .0))
+cast-add-at : (t : ℕ) → cast-lts.Need-add-at (cast-claims t) (cast-at t) cast.Post
+cast-add-at t c = omega (arith, heads.slot-room (c .before .before .before .before .before .before .pre .1 .0 .0), heads.few (c .before .before .before .before .before .before .pre .1 .0 .0))
 
-cast-sub-inner : (t : ℕ) → cast-lts.Need-sub-inner (cast-claims t) (cast-at t) cast.Post
-cast-sub-inner t c = omega (arith, heads.deep (c .before .before .before .before .before .pre .1 .0 .0))
+cast-sub-depth : (t : ℕ) → cast-lts.Need-sub-depth (cast-claims t) (cast-at t) cast.Post
+cast-sub-depth t c = omega (arith, heads.deep (c .before .before .before .before .before .before .before .pre .1 .0 .0))
 
 cast-type-check-expression-requires : (t : ℕ) → cast-lts.Need-type-check-expression-requires (cast-claims t) (cast-at t) cast.Post
-cast-type-check-expression-requires t c κs = (omega (arith, c .before .before .before .before .before .before .before .before .before .pre .0, heads.deep (c .before .before .before .before .before .before .before .before .before .pre .1 .0 .0)), (heads.value-fine (c .before .before .before .before .before .before .before .before .before .pre .1 .0 .0) (c .before .before .before .before .before .before .before .before .before .pre .1 .0 .1), c .before .before .before .before .before .before .before .before .before .pre .1 .1))
+cast-type-check-expression-requires t c κs = (omega (arith, c .before .before .before .before .before .before .before .before .before .before .before .pre .0, heads.deep (c .before .before .before .before .before .before .before .before .before .before .before .pre .1 .0 .0)), (heads.value-fine (c .before .before .before .before .before .before .before .before .before .before .before .pre .1 .0 .0) (c .before .before .before .before .before .before .before .before .before .before .before .pre .1 .0 .1), c .before .before .before .before .before .before .before .before .before .before .before .pre .1 .1))
 
 cast-length-at-requires : (t : ℕ) → cast-lts.Need-length-at-requires (cast-claims t) (cast-at t) cast.Post
-cast-length-at-requires t c κs = omega (arith, heads.slot-room (heads.value-fine (c .before .before .before .before .before .before .before .before .before .before .before .before .before .before .before .before .before .pre .1 .0 .0) (c .before .before .before .before .before .before .before .before .before .before .before .before .before .before .before .before .before .pre .1 .0 .1)))
+cast-length-at-requires t c κs = omega (arith, heads.slot-room (heads.value-fine (c .before .before .before .before .before .before .before .before .before .before .before .before .before .before .before .before .before .before .before .pre .1 .0 .0) (c .before .before .before .before .before .before .before .before .before .before .before .before .before .before .before .before .before .before .before .pre .1 .0 .1)))
 
-cast-add-second : (t : ℕ) → cast-lts.Need-add-second (cast-claims t) (cast-at t) cast.Post
-cast-add-second t c = omega (arith, heads.stop-room (heads.value-fine (c .before .before .before .before .before .before .before .before .before .before .before .before .before .before .before .before .before .before .pre .1 .0 .0) (c .before .before .before .before .before .before .before .before .before .before .before .before .before .before .before .before .before .before .pre .1 .0 .1)), heads.few (c .before .before .before .before .before .before .before .before .before .before .before .before .before .before .before .before .before .before .pre .1 .0 .0), c .length-at .ensures .is)
+cast-add-place : (t : ℕ) → cast-lts.Need-add-place (cast-claims t) (cast-at t) cast.Post
+cast-add-place t c = omega (arith, heads.stop-room (heads.value-fine (c .before .before .before .before .before .before .before .before .before .before .before .before .before .before .before .before .before .before .before .before .pre .1 .0 .0) (c .before .before .before .before .before .before .before .before .before .before .before .before .before .before .before .before .before .before .before .before .pre .1 .0 .1)), heads.few (c .before .before .before .before .before .before .before .before .before .before .before .before .before .before .before .before .before .before .before .before .pre .1 .0 .0), c .length-at .ensures .is)
 
 cast-convert-node-type-requires : (t : ℕ) → cast-lts.Need-convert-node-type-requires (cast-claims t) (cast-at t) cast.Post
-cast-convert-node-type-requires t c κs = (heads.cast-type-fine (c .before .before .before .before .before .before .before .before .before .before .before .before .before .before .before .before .before .before .before .before .before .before .pre .1 .0 .0) (c .before .before .before .before .before .before .before .before .before .before .before .before .before .before .before .before .before .before .before .before .before .before .pre .1 .0 .1) _ (heads.stops-at _ _ _ (c .before .before .before .before .length-at .ensures)), laws.ready-later (c .before .before .before .before .before .before .before .before .before .before .before .before .before .before .before .before .before .before .before .before .before .before .pre .1 .1) (c .before .before .before .before .before .before .before .before .before .before .before .before .type-check-expression .ensures .walked .walked .grew) (c .before .before .before .before .before .before .before .before .before .before .before .before .type-check-expression .ensures .walked .walked .frame .long))
+cast-convert-node-type-requires t c κs = (heads.cast-type-fine (c .before .before .before .before .before .before .before .before .before .before .before .before .before .before .before .before .before .before .before .before .before .before .before .before .pre .1 .0 .0) (c .before .before .before .before .before .before .before .before .before .before .before .before .before .before .before .before .before .before .before .before .before .before .before .before .pre .1 .0 .1) _ (heads.stops-at _ _ _ (c .before .before .before .before .length-at .ensures)), ready-later (c .before .before .before .before .before .before .before .before .before .before .before .before .before .before .before .before .before .before .before .before .before .before .before .before .pre .1 .1) (c .before .before .before .before .before .before .before .before .before .before .before .before .type-check-expression .ensures .walked .walked .grew) (c .before .before .before .before .before .before .before .before .before .before .before .before .type-check-expression .ensures .walked .walked .frame .long))
 
 cast-cast-requires : (t : ℕ) → cast-lts.Need-cast-requires (cast-claims t) (cast-at t) cast.Post
-cast-cast-requires t c κs = (omega (arith, heads.slot-room (c .before .before .before .before .before .before .before .before .before .before .before .before .before .before .before .before .before .before .before .before .before .before .before .before .before .before .before .before .before .before .before .before .pre .1 .0 .0)), laws.two-types (c .before .before .before .before .before .before .before .before .before .convert-node-type .ensures .walked .walked .grew .good) (laws.type-later (c .before .before .before .before .before .before .before .before .before .convert-node-type .ensures .walked .walked .grew) (c .before .before .before .before .before .before .before .before .before .before .before .before .before .before .before .before .before .before .before .before .before .before .type-check-expression .ensures .walked .is)) (c .before .before .before .before .before .before .before .before .before .convert-node-type .ensures .walked .is))
+cast-cast-requires t c κs = (omega (arith, heads.slot-room (c .before .before .before .before .before .before .before .before .before .before .before .before .before .before .before .before .before .before .before .before .before .before .before .before .before .before .before .before .before .before .before .before .before .before .pre .1 .0 .0)), laws.two-types (c .before .before .before .before .before .before .before .before .before .convert-node-type .ensures .walked .walked .grew .good) (laws.type-later (c .before .before .before .before .before .before .before .before .before .convert-node-type .ensures .walked .walked .grew) (c .before .before .before .before .before .before .before .before .before .before .before .before .before .before .before .before .before .before .before .before .before .before .type-check-expression .ensures .walked .is)) (c .before .before .before .before .before .before .before .before .before .convert-node-type .ensures .walked .is))
 
 cast-put-slot-requires : (t : ℕ) → cast-lts.Need-put-slot-requires (cast-claims t) (cast-at t) cast.Post
-cast-put-slot-requires t c κs = omega (arith, heads.slot-room (c .before .before .before .before .before .before .before .before .before .before .before .before .before .before .before .before .before .before .before .before .before .before .before .before .before .before .before .before .before .before .before .before .before .before .before .before .pre .1 .0 .0), (c .before .before .before .before .before .before .before .before .before .before .before .before .before .before .before .before .before .before .before .before .before .before .before .before .before .before .before .before .before .before .before .before .before .before .before .before .pre .1 .1) .long, c .before .before .before .before .before .before .before .before .before .before .before .before .before .before .before .before .before .before .before .before .before .before .before .before .before .before .type-check-expression .ensures .walked .walked .frame .long, c .before .before .before .before .before .before .before .before .before .before .before .before .before .convert-node-type .ensures .walked .walked .frame .long)
+cast-put-slot-requires t c κs = omega (arith, heads.slot-room (c .before .before .before .before .before .before .before .before .before .before .before .before .before .before .before .before .before .before .before .before .before .before .before .before .before .before .before .before .before .before .before .before .before .before .before .before .before .before .pre .1 .0 .0), (c .before .before .before .before .before .before .before .before .before .before .before .before .before .before .before .before .before .before .before .before .before .before .before .before .before .before .before .before .before .before .before .before .before .before .before .before .before .before .pre .1 .1) .long, c .before .before .before .before .before .before .before .before .before .before .before .before .before .before .before .before .before .before .before .before .before .before .before .before .before .before .type-check-expression .ensures .walked .walked .frame .long, c .before .before .before .before .before .before .before .before .before .before .before .before .before .convert-node-type .ensures .walked .walked .frame .long)
 
 cast-same-length : (t : ℕ) → cast-lts.Need-same-length (cast-claims t) (cast-at t) cast.Post
-cast-same-length t c = omega (arith, c .before .before .before .before .before .before .before .before .before .before .before .before .before .before .before .before .before .before .before .before .before .before .before .before .before .before .before .before .before .type-check-expression .kept .1 .1 .1 .1 .1 .0, c .before .before .before .before .before .before .before .before .before .before .before .before .before .before .before .before .convert-node-type .kept .1 .1 .1 .1 .1 .0, c .before .before .put-slot .kept .0)
+cast-same-length t c = omega (arith, c .before .before .before .before .before .before .before .before .before .before .before .before .before .before .before .before .before .before .before .before .before .before .before .before .before .before .before .before .before .type-check-expression .kept .1 .1 .1 .1 .0, c .before .before .before .before .before .before .before .before .before .before .before .before .before .before .before .before .convert-node-type .kept .1 .1 .1 .1 .0, c .before .before .put-slot .kept .0)
 
 cast-same-length-2 : (t : ℕ) → cast-lts.Need-same-length-2 (cast-claims t) (cast-at t) cast.Post
-cast-same-length-2 t c = omega (arith, c .before .before .before .before .before .before .before .before .before .before .before .before .before .before .before .before .before .before .before .before .before .before .before .before .before .before .before .before .before .type-check-expression .kept .1 .1 .1 .1 .1 .1 .0, c .before .before .before .before .before .before .before .before .before .before .before .before .before .before .before .before .convert-node-type .kept .1 .1 .1 .1 .1 .1 .0, c .before .before .before .before .before .before .cast .kept .1 .1 .1 .1 .0)
+cast-same-length-2 t c = omega (arith, c .before .before .before .before .before .before .before .before .before .before .before .before .before .before .before .before .before .before .before .before .before .before .before .before .before .before .before .before .before .type-check-expression .kept .1 .1 .1 .1 .1 .0, c .before .before .before .before .before .before .before .before .before .before .before .before .before .before .before .before .convert-node-type .kept .1 .1 .1 .1 .1 .0, c .before .before .before .before .before .before .cast .kept .1 .1 .1 .1 .0)
 
 cast-same-length-3 : (t : ℕ) → cast-lts.Need-same-length-3 (cast-claims t) (cast-at t) cast.Post
-cast-same-length-3 t c = omega (arith, c .before .before .before .before .before .before .before .before .before .before .before .before .before .before .before .before .before .before .before .before .before .before .before .before .before .before .before .before .before .type-check-expression .kept .1 .1 .1 .1 .1 .1 .1 .0, c .before .before .before .before .before .before .before .before .before .before .before .before .before .before .before .before .convert-node-type .kept .1 .1 .1 .1 .1 .1 .1 .0)
+cast-same-length-3 t c = omega (arith, c .before .before .before .before .before .before .before .before .before .before .before .before .before .before .before .before .before .before .before .before .before .before .before .before .before .before .before .before .before .type-check-expression .kept .1 .1 .1 .1 .1 .1 .0, c .before .before .before .before .before .before .before .before .before .before .before .before .before .before .before .before .convert-node-type .kept .1 .1 .1 .1 .1 .1 .0)
 
 cast-returns : (t : ℕ) → cast-lts.Need-returns (cast-claims t) (cast-at t) cast.Post
-cast-returns t c = laws.cast-carried (c .before .before .before .before .before .before .before .before .before .before .before .before .before .before .before .before .before .before .before .before .before .before .before .before .before .before .before .before .before .before .before .before .before .before .before .before .before .before .before .pre .1 .0 .0) (c .before .before .before .before .before .before .before .before .before .before .before .before .before .before .before .before .before .before .before .before .before .before .before .before .before .before .before .before .before .before .before .before .before .before .before .before .before .before .before .pre .1 .0 .1) (c .before .before .before .before .before .before .before .before .before .before .before .before .before .before .before .before .before .before .before .before .before .before .before .before .before .before .before .before .before .before .before .before .before .before .before .before .before .before .before .pre .1 .1) (c .before .before .before .before .before .before .before .before .before .before .before .before .before .before .before .before .before .before .before .before .before .before .before .before .before .before .before .before .before .type-check-expression .ensures) _ (heads.stops-at _ _ _ (c .before .before .before .before .before .before .before .before .before .before .before .before .before .before .before .before .before .before .before .before .before .length-at .ensures)) (c .before .before .before .before .before .before .before .before .before .before .before .before .before .before .before .before .convert-node-type .ensures) _ (c .before .before .before .before .before .before .cast .ensures) _ (c .before .before .put-slot .ensures)
+cast-returns t c = laws.cast-carried (c .before .before .before .before .before .before .before .before .before .before .before .before .before .before .before .before .before .before .before .before .before .before .before .before .before .before .before .before .before .before .before .before .before .before .before .before .before .before .before .before .before .pre .1 .0 .0) (c .before .before .before .before .before .before .before .before .before .before .before .before .before .before .before .before .before .before .before .before .before .before .before .before .before .before .before .before .before .before .before .before .before .before .before .before .before .before .before .before .before .pre .1 .0 .1) (c .before .before .before .before .before .before .before .before .before .before .before .before .before .before .before .before .before .before .before .before .before .before .before .before .before .before .before .before .before .before .before .before .before .before .before .before .before .before .before .before .before .pre .1 .1) (c .before .before .before .before .before .before .before .before .before .before .before .before .before .before .before .before .before .before .before .before .before .before .before .before .before .before .before .before .before .type-check-expression .ensures) _ (heads.stops-at _ _ _ (c .before .before .before .before .before .before .before .before .before .before .before .before .before .before .before .before .before .before .before .before .before .length-at .ensures)) (c .before .before .before .before .before .before .before .before .before .before .before .before .before .before .before .before .convert-node-type .ensures) _ (c .before .before .before .before .before .before .cast .ensures) _ (c .before .before .put-slot .ensures)
 
-one-operand-sub-inner : (t : ℕ) → one-operand-lts.Need-sub-inner (one-operand-claims t) (one-operand-at t) one-operand.Post
-one-operand-sub-inner t c = omega (arith, (c .before .before .before .before .before .pre .1 .0) .deep)
+one-operand-sub-depth : (t : ℕ) → one-operand-lts.Need-sub-depth (one-operand-claims t) (one-operand-at t) one-operand.Post
+one-operand-sub-depth t c = omega (arith, (c .before .before .before .before .before .before .pre .1 .0) .deep)
 
 one-operand-type-check-expression-requires :
     (t : ℕ) → one-operand-lts.Need-type-check-expression-requires (
@@ -291,13 +295,13 @@ one-operand-type-check-expression-requires :
       put-slot-reads.Asked,
       put-slot-reads.Learnt,
     ) (one-operand-at t) one-operand.Post
-one-operand-type-check-expression-requires t c κs = (omega (arith, c .before .before .before .before .before .before .before .before .before .pre .0, (c .before .before .before .before .before .before .before .before .before .pre .1 .0) .deep), ((c .before .before .before .before .before .before .before .before .before .pre .1 .0) .operand, c .before .before .before .before .before .before .before .before .before .pre .1 .1))
+one-operand-type-check-expression-requires t c κs = (omega (arith, c .before .before .before .before .before .before .before .before .before .before .pre .0, (c .before .before .before .before .before .before .before .before .before .before .pre .1 .0) .deep), ((c .before .before .before .before .before .before .before .before .before .before .pre .1 .0) .operand, c .before .before .before .before .before .before .before .before .before .before .pre .1 .1))
 
 one-operand-unary-requires : (t : ℕ) → one-operand-lts.Need-unary-requires (one-operand-claims t) (one-operand-at t) one-operand.Post
-one-operand-unary-requires t c κs = ((omega (arith, (c .before .before .before .before .before .before .before .before .before .before .before .before .before .before .before .before .before .before .before .before .pre .1 .0) .slot, heads.slot-room ((c .before .before .before .before .before .before .before .before .before .before .before .before .before .before .before .before .before .before .before .before .pre .1 .0) .operand)), laws.one-type (c .before .before .before .before .before .before .before .before .before .before .type-check-expression .ensures .walked .walked .grew .good) (c .before .before .before .before .before .before .before .before .before .before .type-check-expression .ensures .walked .is)), c .before .before .before .before .before .before .before .before .before .before .type-check-expression .ensures .walked .walked .grew .good .indexed)
+one-operand-unary-requires t c κs = ((omega (arith, (c .before .before .before .before .before .before .before .before .before .before .before .before .before .before .before .before .before .before .before .before .before .pre .1 .0) .slot, heads.slot-room ((c .before .before .before .before .before .before .before .before .before .before .before .before .before .before .before .before .before .before .before .before .before .pre .1 .0) .operand)), laws.one-type (c .before .before .before .before .before .before .before .before .before .before .type-check-expression .ensures .walked .walked .grew .good) (c .before .before .before .before .before .before .before .before .before .before .type-check-expression .ensures .walked .is)), c .before .before .before .before .before .before .before .before .before .before .type-check-expression .ensures .walked .walked .grew .good .indexed)
 
 one-operand-put-slot-requires : (t : ℕ) → one-operand-lts.Need-put-slot-requires (one-operand-claims t) (one-operand-at t) one-operand.Post
-one-operand-put-slot-requires t c κs = omega (arith, (c .before .before .before .before .before .before .before .before .before .before .before .before .before .before .before .before .before .before .before .before .before .before .before .before .before .before .pre .1 .0) .slot, heads.slot-room ((c .before .before .before .before .before .before .before .before .before .before .before .before .before .before .before .before .before .before .before .before .before .before .before .before .before .before .pre .1 .0) .operand), (c .before .before .before .before .before .before .before .before .before .before .before .before .before .before .before .before .before .before .before .before .before .before .before .before .before .before .pre .1 .1) .long, c .before .before .before .before .before .before .before .before .before .before .before .before .before .before .before .before .type-check-expression .ensures .walked .walked .frame .long)
+one-operand-put-slot-requires t c κs = omega (arith, (c .before .before .before .before .before .before .before .before .before .before .before .before .before .before .before .before .before .before .before .before .before .before .before .before .before .before .before .pre .1 .0) .slot, heads.slot-room ((c .before .before .before .before .before .before .before .before .before .before .before .before .before .before .before .before .before .before .before .before .before .before .before .before .before .before .before .pre .1 .0) .operand), (c .before .before .before .before .before .before .before .before .before .before .before .before .before .before .before .before .before .before .before .before .before .before .before .before .before .before .before .pre .1 .1) .long, c .before .before .before .before .before .before .before .before .before .before .before .before .before .before .before .before .type-check-expression .ensures .walked .walked .frame .long)
 
 one-operand-same-length : (t : ℕ) → one-operand-lts.Need-same-length (one-operand-claims t) (one-operand-at t) one-operand.Post
 one-operand-same-length t c = search needs
@@ -309,10 +313,10 @@ one-operand-same-length-3 : (t : ℕ) → one-operand-lts.Need-same-length-3 (on
 one-operand-same-length-3 t c = search needs
 
 one-operand-returns : (t : ℕ) → one-operand-lts.Need-returns (one-operand-claims t) (one-operand-at t) one-operand.Post
-one-operand-returns t c = laws.one-operand-carried (c .before .before .before .before .before .before .before .before .before .before .before .before .before .before .before .before .before .before .before .before .before .before .before .before .before .before .before .before .before .pre .1 .0) (c .before .before .before .before .before .before .before .before .before .before .before .before .before .before .before .before .before .before .before .before .before .before .before .before .before .before .before .before .before .pre .1 .1) (c .before .before .before .before .before .before .before .before .before .before .before .before .before .before .before .before .before .before .before .type-check-expression .ensures) _ (c .before .before .before .before .before .before .before .before .unary .ensures) _ (c .before .before .put-slot .ensures)
+one-operand-returns t c = laws.one-operand-carried (c .before .before .before .before .before .before .before .before .before .before .before .before .before .before .before .before .before .before .before .before .before .before .before .before .before .before .before .before .before .before .pre .1 .0) (c .before .before .before .before .before .before .before .before .before .before .before .before .before .before .before .before .before .before .before .before .before .before .before .before .before .before .before .before .before .before .pre .1 .1) (c .before .before .before .before .before .before .before .before .before .before .before .before .before .before .before .before .before .before .before .type-check-expression .ensures) _ (c .before .before .before .before .before .before .before .before .unary .ensures) _ (c .before .before .put-slot .ensures)
 
-two-operands-sub-inner : (t : ℕ) → two-operands-lts.Need-sub-inner (two-operands-claims t) (two-operands-at t) two-operands.Post
-two-operands-sub-inner t c = omega (arith, (c .before .before .before .before .before .pre .1 .0) .deep)
+two-operands-sub-depth : (t : ℕ) → two-operands-lts.Need-sub-depth (two-operands-claims t) (two-operands-at t) two-operands.Post
+two-operands-sub-depth t c = omega (arith, (c .before .before .before .before .before .before .pre .1 .0) .deep)
 
 two-operands-type-check-expression-requires :
     (t : ℕ) → two-operands-lts.Need-type-check-expression-requires (
@@ -325,13 +329,13 @@ two-operands-type-check-expression-requires :
       put-slot-reads.Asked,
       put-slot-reads.Learnt,
     ) (two-operands-at t) two-operands.Post
-two-operands-type-check-expression-requires t c κs = (omega (arith, c .before .before .before .before .before .before .before .before .before .pre .0, (c .before .before .before .before .before .before .before .before .before .pre .1 .0) .deep), ((c .before .before .before .before .before .before .before .before .before .pre .1 .0) .left, c .before .before .before .before .before .before .before .before .before .pre .1 .1))
+two-operands-type-check-expression-requires t c κs = (omega (arith, c .before .before .before .before .before .before .before .before .before .before .pre .0, (c .before .before .before .before .before .before .before .before .before .before .pre .1 .0) .deep), ((c .before .before .before .before .before .before .before .before .before .before .pre .1 .0) .left, c .before .before .before .before .before .before .before .before .before .before .pre .1 .1))
 
 two-operands-length-at-requires : (t : ℕ) → two-operands-lts.Need-length-at-requires (two-operands-claims t) (two-operands-at t) two-operands.Post
-two-operands-length-at-requires t c κs = omega (arith, heads.slot-room ((c .before .before .before .before .before .before .before .before .before .before .before .before .before .before .before .before .before .pre .1 .0) .left))
+two-operands-length-at-requires t c κs = omega (arith, heads.slot-room ((c .before .before .before .before .before .before .before .before .before .before .before .before .before .before .before .before .before .before .pre .1 .0) .left))
 
-two-operands-add-second : (t : ℕ) → two-operands-lts.Need-add-second (two-operands-claims t) (two-operands-at t) two-operands.Post
-two-operands-add-second t c = omega (arith, heads.stop-room ((c .before .before .before .before .before .before .before .before .before .before .before .before .before .before .before .before .before .before .pre .1 .0) .left), heads.few ((c .before .before .before .before .before .before .before .before .before .before .before .before .before .before .before .before .before .before .pre .1 .0) .left), c .length-at .ensures .is)
+two-operands-add-place : (t : ℕ) → two-operands-lts.Need-add-place (two-operands-claims t) (two-operands-at t) two-operands.Post
+two-operands-add-place t c = omega (arith, heads.stop-room ((c .before .before .before .before .before .before .before .before .before .before .before .before .before .before .before .before .before .before .before .pre .1 .0) .left), heads.few ((c .before .before .before .before .before .before .before .before .before .before .before .before .before .before .before .before .before .before .before .pre .1 .0) .left), c .length-at .ensures .is)
 
 two-operands-type-check-expression-requires-2 :
     (t : ℕ) → two-operands-lts.Need-type-check-expression-requires-2 (
@@ -344,31 +348,31 @@ two-operands-type-check-expression-requires-2 :
       put-slot-reads.Asked,
       put-slot-reads.Learnt,
     ) (two-operands-at t) two-operands.Post
-two-operands-type-check-expression-requires-2 t c κs = (omega (arith, c .before .before .before .before .before .before .before .before .before .before .before .before .before .before .before .before .before .before .before .before .before .before .pre .0, (c .before .before .before .before .before .before .before .before .before .before .before .before .before .before .before .before .before .before .before .before .before .before .pre .1 .0) .deep), (heads.fine-at (heads.stops-at _ _ _ (c .before .before .before .before .length-at .ensures)) ((c .before .before .before .before .before .before .before .before .before .before .before .before .before .before .before .before .before .before .before .before .before .before .pre .1 .0) .right), laws.ready-later (c .before .before .before .before .before .before .before .before .before .before .before .before .before .before .before .before .before .before .before .before .before .before .pre .1 .1) (c .before .before .before .before .before .before .before .before .before .before .before .before .type-check-expression .ensures .walked .walked .grew) (c .before .before .before .before .before .before .before .before .before .before .before .before .type-check-expression .ensures .walked .walked .frame .long)))
+two-operands-type-check-expression-requires-2 t c κs = (omega (arith, c .before .before .before .before .before .before .before .before .before .before .before .before .before .before .before .before .before .before .before .before .before .before .before .pre .0, (c .before .before .before .before .before .before .before .before .before .before .before .before .before .before .before .before .before .before .before .before .before .before .before .pre .1 .0) .deep), (heads.fine-at (heads.stops-at _ _ _ (c .before .before .before .before .length-at .ensures)) ((c .before .before .before .before .before .before .before .before .before .before .before .before .before .before .before .before .before .before .before .before .before .before .before .pre .1 .0) .right), ready-later (c .before .before .before .before .before .before .before .before .before .before .before .before .before .before .before .before .before .before .before .before .before .before .before .pre .1 .1) (c .before .before .before .before .before .before .before .before .before .before .before .before .type-check-expression .ensures .walked .walked .grew) (c .before .before .before .before .before .before .before .before .before .before .before .before .type-check-expression .ensures .walked .walked .frame .long)))
 
 two-operands-binary-requires : (t : ℕ) → two-operands-lts.Need-binary-requires (two-operands-claims t) (two-operands-at t) two-operands.Post
-two-operands-binary-requires t c κs = (omega (arith, (c .before .before .before .before .before .before .before .before .before .before .before .before .before .before .before .before .before .before .before .before .before .before .before .before .before .before .before .before .before .before .before .before .pre .1 .0) .slot, heads.slot-room ((c .before .before .before .before .before .before .before .before .before .before .before .before .before .before .before .before .before .before .before .before .before .before .before .before .before .before .before .before .before .before .before .before .pre .1 .0) .left)), omega (arith, heads.slot-room (heads.fine-at (heads.stops-at _ _ _ (c .before .before .before .before .before .before .before .before .before .before .before .before .before .before .length-at .ensures)) ((c .before .before .before .before .before .before .before .before .before .before .before .before .before .before .before .before .before .before .before .before .before .before .before .before .before .before .before .before .before .before .before .before .pre .1 .0) .right))), laws.two-types (c .before .before .before .before .before .before .before .before .before .type-check-expression2 .ensures .walked .walked .grew .good) (laws.type-later (c .before .before .before .before .before .before .before .before .before .type-check-expression2 .ensures .walked .walked .grew) (c .before .before .before .before .before .before .before .before .before .before .before .before .before .before .before .before .before .before .before .before .before .before .type-check-expression .ensures .walked .is)) (c .before .before .before .before .before .before .before .before .before .type-check-expression2 .ensures .walked .is))
+two-operands-binary-requires t c κs = (omega (arith, (c .before .before .before .before .before .before .before .before .before .before .before .before .before .before .before .before .before .before .before .before .before .before .before .before .before .before .before .before .before .before .before .before .before .pre .1 .0) .slot, heads.slot-room ((c .before .before .before .before .before .before .before .before .before .before .before .before .before .before .before .before .before .before .before .before .before .before .before .before .before .before .before .before .before .before .before .before .before .pre .1 .0) .left)), omega (arith, heads.slot-room (heads.fine-at (heads.stops-at _ _ _ (c .before .before .before .before .before .before .before .before .before .before .before .before .before .before .length-at .ensures)) ((c .before .before .before .before .before .before .before .before .before .before .before .before .before .before .before .before .before .before .before .before .before .before .before .before .before .before .before .before .before .before .before .before .before .pre .1 .0) .right))), laws.two-types (c .before .before .before .before .before .before .before .before .before .type-check-expression2 .ensures .walked .walked .grew .good) (laws.type-later (c .before .before .before .before .before .before .before .before .before .type-check-expression2 .ensures .walked .walked .grew) (c .before .before .before .before .before .before .before .before .before .before .before .before .before .before .before .before .before .before .before .before .before .before .type-check-expression .ensures .walked .is)) (c .before .before .before .before .before .before .before .before .before .type-check-expression2 .ensures .walked .is))
 
 two-operands-put-slot-requires : (t : ℕ) → two-operands-lts.Need-put-slot-requires (two-operands-claims t) (two-operands-at t) two-operands.Post
-two-operands-put-slot-requires t c κs = omega (arith, (c .before .before .before .before .before .before .before .before .before .before .before .before .before .before .before .before .before .before .before .before .before .before .before .before .before .before .before .before .before .before .before .before .before .before .before .before .pre .1 .0) .slot, heads.slot-room ((c .before .before .before .before .before .before .before .before .before .before .before .before .before .before .before .before .before .before .before .before .before .before .before .before .before .before .before .before .before .before .before .before .before .before .before .before .pre .1 .0) .left), (c .before .before .before .before .before .before .before .before .before .before .before .before .before .before .before .before .before .before .before .before .before .before .before .before .before .before .before .before .before .before .before .before .before .before .before .before .pre .1 .1) .long, c .before .before .before .before .before .before .before .before .before .before .before .before .before .before .before .before .before .before .before .before .before .before .before .before .before .before .type-check-expression .ensures .walked .walked .frame .long, c .before .before .before .before .before .before .before .before .before .before .before .before .before .type-check-expression2 .ensures .walked .walked .frame .long)
+two-operands-put-slot-requires t c κs = omega (arith, (c .before .before .before .before .before .before .before .before .before .before .before .before .before .before .before .before .before .before .before .before .before .before .before .before .before .before .before .before .before .before .before .before .before .before .before .before .before .pre .1 .0) .slot, heads.slot-room ((c .before .before .before .before .before .before .before .before .before .before .before .before .before .before .before .before .before .before .before .before .before .before .before .before .before .before .before .before .before .before .before .before .before .before .before .before .before .pre .1 .0) .left), (c .before .before .before .before .before .before .before .before .before .before .before .before .before .before .before .before .before .before .before .before .before .before .before .before .before .before .before .before .before .before .before .before .before .before .before .before .before .pre .1 .1) .long, c .before .before .before .before .before .before .before .before .before .before .before .before .before .before .before .before .before .before .before .before .before .before .before .before .before .before .type-check-expression .ensures .walked .walked .frame .long, c .before .before .before .before .before .before .before .before .before .before .before .before .before .type-check-expression2 .ensures .walked .walked .frame .long)
 
 two-operands-same-length : (t : ℕ) → two-operands-lts.Need-same-length (two-operands-claims t) (two-operands-at t) two-operands.Post
-two-operands-same-length t c = omega (arith, c .before .before .before .before .before .before .before .before .before .before .before .before .before .before .before .before .before .before .before .before .before .before .before .before .before .before .before .before .before .type-check-expression .kept .1 .1 .1 .1 .1 .0, c .before .before .before .before .before .before .before .before .before .before .before .before .before .before .before .before .type-check-expression2 .kept .1 .1 .1 .1 .1 .0, c .before .before .put-slot .kept .0)
+two-operands-same-length t c = omega (arith, c .before .before .before .before .before .before .before .before .before .before .before .before .before .before .before .before .before .before .before .before .before .before .before .before .before .before .before .before .before .type-check-expression .kept .1 .1 .1 .1 .0, c .before .before .before .before .before .before .before .before .before .before .before .before .before .before .before .before .type-check-expression2 .kept .1 .1 .1 .1 .0, c .before .before .put-slot .kept .0)
 
 two-operands-same-length-2 : (t : ℕ) → two-operands-lts.Need-same-length-2 (two-operands-claims t) (two-operands-at t) two-operands.Post
-two-operands-same-length-2 t c = omega (arith, c .before .before .before .before .before .before .before .before .before .before .before .before .before .before .before .before .before .before .before .before .before .before .before .before .before .before .before .before .before .type-check-expression .kept .1 .1 .1 .1 .1 .1 .0, c .before .before .before .before .before .before .before .before .before .before .before .before .before .before .before .before .type-check-expression2 .kept .1 .1 .1 .1 .1 .1 .0, c .before .before .before .before .before .before .binary .kept .1 .1 .1 .1 .1 .1 .0)
+two-operands-same-length-2 t c = omega (arith, c .before .before .before .before .before .before .before .before .before .before .before .before .before .before .before .before .before .before .before .before .before .before .before .before .before .before .before .before .before .type-check-expression .kept .1 .1 .1 .1 .1 .0, c .before .before .before .before .before .before .before .before .before .before .before .before .before .before .before .before .type-check-expression2 .kept .1 .1 .1 .1 .1 .0, c .before .before .before .before .before .before .binary .kept .1 .1 .1 .1 .1 .1 .0)
 
 two-operands-same-length-3 : (t : ℕ) → two-operands-lts.Need-same-length-3 (two-operands-claims t) (two-operands-at t) two-operands.Post
-two-operands-same-length-3 t c = omega (arith, c .before .before .before .before .before .before .before .before .before .before .before .before .before .before .before .before .before .before .before .before .before .before .before .before .before .before .before .before .before .type-check-expression .kept .1 .1 .1 .1 .1 .1 .1 .0, c .before .before .before .before .before .before .before .before .before .before .before .before .before .before .before .before .type-check-expression2 .kept .1 .1 .1 .1 .1 .1 .1 .0)
+two-operands-same-length-3 t c = omega (arith, c .before .before .before .before .before .before .before .before .before .before .before .before .before .before .before .before .before .before .before .before .before .before .before .before .before .before .before .before .before .type-check-expression .kept .1 .1 .1 .1 .1 .1 .0, c .before .before .before .before .before .before .before .before .before .before .before .before .before .before .before .before .type-check-expression2 .kept .1 .1 .1 .1 .1 .1 .0)
 
 two-operands-returns : (t : ℕ) → two-operands-lts.Need-returns (two-operands-claims t) (two-operands-at t) two-operands.Post
-two-operands-returns t c = laws.two-operands-carried (c .before .before .before .before .before .before .before .before .before .before .before .before .before .before .before .before .before .before .before .before .before .before .before .before .before .before .before .before .before .before .before .before .before .before .before .before .before .before .before .pre .1 .0) (c .before .before .before .before .before .before .before .before .before .before .before .before .before .before .before .before .before .before .before .before .before .before .before .before .before .before .before .before .before .before .before .before .before .before .before .before .before .before .before .pre .1 .1) (c .before .before .before .before .before .before .before .before .before .before .before .before .before .before .before .before .before .before .before .before .before .before .before .before .before .before .before .before .before .type-check-expression .ensures) _ (heads.stops-at _ _ _ (c .before .before .before .before .before .before .before .before .before .before .before .before .before .before .before .before .before .before .before .before .before .length-at .ensures)) (c .before .before .before .before .before .before .before .before .before .before .before .before .before .before .before .before .type-check-expression2 .ensures) _ (c .before .before .before .before .before .before .binary .ensures) _ (c .before .before .put-slot .ensures)
+two-operands-returns t c = laws.two-operands-carried (c .before .before .before .before .before .before .before .before .before .before .before .before .before .before .before .before .before .before .before .before .before .before .before .before .before .before .before .before .before .before .before .before .before .before .before .before .before .before .before .before .pre .1 .0) (c .before .before .before .before .before .before .before .before .before .before .before .before .before .before .before .before .before .before .before .before .before .before .before .before .before .before .before .before .before .before .before .before .before .before .before .before .before .before .before .before .pre .1 .1) (c .before .before .before .before .before .before .before .before .before .before .before .before .before .before .before .before .before .before .before .before .before .before .before .before .before .before .before .before .before .type-check-expression .ensures) _ (heads.stops-at _ _ _ (c .before .before .before .before .before .before .before .before .before .before .before .before .before .before .before .before .before .before .before .before .before .length-at .ensures)) (c .before .before .before .before .before .before .before .before .before .before .before .before .before .before .before .before .type-check-expression2 .ensures) _ (c .before .before .before .before .before .before .binary .ensures) _ (c .before .before .put-slot .ensures)
 
 type-check-expression-enter-requires : (t : ℕ) → type-check-expression-lts.Need-enter-requires (type-check-expression-claims t) (type-check-expression-at t) type-check-expression.Post
 type-check-expression-enter-requires t c κs = c .before .before .before .before .before .pre .1 .0
 
 type-check-expression-leaf-requires : (t : ℕ) → type-check-expression-lts.Need-leaf-requires (type-check-expression-claims t) (type-check-expression-at t) type-check-expression.Post
-type-check-expression-leaf-requires t c κs = (((c .before .before .before .before .before .before .before .before .before .before .before .pre .1 .0), (c .before .before .before .before .before .enter .ensures) .kinds, c .before .before .before .before .if1 .taken), c .before .before .before .before .before .before .before .before .before .before .before .pre .1 .1)
+type-check-expression-leaf-requires t c κs = ((c .before .before .before .before .before .before .before .before .before .pre .1 .0, c .before .before .before .enter .ensures .opened .kinds, c .before .before .if1 .taken), ((c .before .before .before .before .before .before .before .before .before .pre .1 .1) .long, (c .before .before .before .before .before .before .before .before .before .pre .1 .1) .wide))
 
 type-check-expression-same-length : (t : ℕ) → type-check-expression-lts.Need-same-length (type-check-expression-claims t) (type-check-expression-at t) type-check-expression.Post
 type-check-expression-same-length t c = search needs
@@ -376,58 +380,26 @@ type-check-expression-same-length t c = search needs
 type-check-expression-same-length-2 : (t : ℕ) → type-check-expression-lts.Need-same-length-2 (type-check-expression-claims t) (type-check-expression-at t) type-check-expression.Post
 type-check-expression-same-length-2 t c = search needs
 
-type-check-expression-same-length-3 : (t : ℕ) → type-check-expression-lts.Need-same-length-3 (type-check-expression-claims t) (type-check-expression-at t) type-check-expression.Post
-type-check-expression-same-length-3 t c = search needs
-
 type-check-expression-returns : (t : ℕ) → type-check-expression-lts.Need-returns (type-check-expression-claims t) (type-check-expression-at t) type-check-expression.Post
-type-check-expression-returns t c = c .before .before .before .before .leaf .ensures
+type-check-expression-returns t c = c .before .before .before .before .leaf .ensures _ _ _ (c .before .before .before .before .before .before .before .before .before .before .before .before .before .before .pre .1 .1)
 
 type-check-expression-call-requires : (t : ℕ) → type-check-expression-lts.Need-call-requires (type-check-expression-claims t) (type-check-expression-at t) type-check-expression.Post
-type-check-expression-call-requires t c κs = (omega (arith, c .before .before .before .before .before .before .before .before .before .before .before .before .pre .0), (((c .before .before .before .before .before .before .before .before .before .before .before .before .pre .1 .0), heads.is-kind (c .before .before .before .before .before .before .before .before .before .before .before .before .pre .1 .0) (c .before .before .before .before .before .before .enter .ensures) (c .before .before .before .before .match .keys1)), c .before .before .before .before .before .before .before .before .before .before .before .before .pre .1 .1))
-
-type-check-expression-two-operands-requires :
-    (t : ℕ) → type-check-expression-lts.Need-two-operands-requires (
-      enter-reads.Asked,
-      enter-reads.Learnt,
-      leaf-reads.Asked,
-      leaf-reads.Learnt,
-      call-below t,
-      call.Post,
-      two-operands-below t,
-      two-operands.Post,
-      cast-below t,
-      cast.Post,
-      sizeof-reads.Asked,
-      sizeof-reads.Learnt,
-      one-operand-below t,
-      one-operand.Post,
-    ) (type-check-expression-at t) type-check-expression.Post
-type-check-expression-two-operands-requires t c κs = (omega (arith, c .before .before .before .before .before .before .before .before .before .before .before .before .pre .0), (heads.index-operands (c .before .before .before .before .before .before .before .before .before .before .before .before .pre .1 .0) (c .before .before .before .before .before .before .enter .ensures) (c .before .before .before .before .match .keys2), c .before .before .before .before .before .before .before .before .before .before .before .before .pre .1 .1))
+type-check-expression-call-requires t c κs = (omega (arith, c .before .before .before .before .before .before .before .before .before .before .before .before .pre .0), ((c .before .before .before .before .before .before .before .before .before .before .before .before .pre .1 .0, heads.is-kind (c .before .before .before .before .before .before .before .before .before .before .before .before .pre .1 .0) (c .before .before .before .before .before .before .enter .ensures .opened) (c .before .before .before .before .match .keys1)), c .before .before .before .before .before .before .before .before .before .before .before .before .pre .1 .1))
 
 type-check-expression-cast-requires : (t : ℕ) → type-check-expression-lts.Need-cast-requires (type-check-expression-claims t) (type-check-expression-at t) type-check-expression.Post
-type-check-expression-cast-requires t c κs = (omega (arith, c .before .before .before .before .before .before .before .before .before .before .before .before .pre .0), (((c .before .before .before .before .before .before .before .before .before .before .before .before .pre .1 .0), heads.is-kind (c .before .before .before .before .before .before .before .before .before .before .before .before .pre .1 .0) (c .before .before .before .before .before .before .enter .ensures) (c .before .before .before .before .match .keys3)), c .before .before .before .before .before .before .before .before .before .before .before .before .pre .1 .1))
+type-check-expression-cast-requires t c κs = (omega (arith, c .before .before .before .before .before .before .before .before .before .before .before .before .pre .0), ((c .before .before .before .before .before .before .before .before .before .before .before .before .pre .1 .0, heads.is-kind (c .before .before .before .before .before .before .before .before .before .before .before .before .pre .1 .0) (c .before .before .before .before .before .before .enter .ensures .opened) (c .before .before .before .before .match .keys2)), c .before .before .before .before .before .before .before .before .before .before .before .before .pre .1 .1))
 
 type-check-expression-sizeof-requires : (t : ℕ) → type-check-expression-lts.Need-sizeof-requires (type-check-expression-claims t) (type-check-expression-at t) type-check-expression.Post
-type-check-expression-sizeof-requires t c κs = (((c .before .before .before .before .before .before .before .before .before .before .before .before .pre .1 .0), heads.is-kind (c .before .before .before .before .before .before .before .before .before .before .before .before .pre .1 .0) (c .before .before .before .before .before .before .enter .ensures) (c .before .before .before .before .match .keys4)), c .before .before .before .before .before .before .before .before .before .before .before .before .pre .1 .1)
+type-check-expression-sizeof-requires t c κs = ((c .before .before .before .before .before .before .before .before .before .before .before .before .pre .1 .0, heads.is-kind (c .before .before .before .before .before .before .before .before .before .before .before .before .pre .1 .0) (c .before .before .before .before .before .before .enter .ensures .opened) (c .before .before .before .before .match .keys3)), c .before .before .before .before .before .before .before .before .before .before .before .before .pre .1 .1)
 
-type-check-expression-one-operand-requires :
-    (t : ℕ) → type-check-expression-lts.Need-one-operand-requires (
-      enter-reads.Asked,
-      enter-reads.Learnt,
-      leaf-reads.Asked,
-      leaf-reads.Learnt,
-      call-below t,
-      call.Post,
-      two-operands-below t,
-      two-operands.Post,
-      cast-below t,
-      cast.Post,
-      sizeof-reads.Asked,
-      sizeof-reads.Learnt,
-      one-operand-below t,
-      one-operand.Post,
-    ) (type-check-expression-at t) type-check-expression.Post
-type-check-expression-one-operand-requires t c κs = (omega (arith, c .before .before .before .before .before .before .before .before .before .before .before .before .before .pre .0), (heads.one-operand (c .before .before .before .before .before .before .before .before .before .before .before .before .before .pre .1 .0) (c .before .before .before .before .before .before .before .enter .ensures) (heads.operator-low (c .before .before .before .before .before .before .before .before .before .before .before .before .before .pre .1 .0) (c .before .before .before .before .before .before .before .enter .ensures) (c .before .before .before .before .before .before .if1 .left) (c .before .before .before .before .before .match .rest .0 .0 .0 .1) (c .before .before .before .before .before .match .rest .0 .0 .1) (c .before .before .before .before .before .match .rest .0 .1)) (c .before .before .before .before .if2 .taken), c .before .before .before .before .before .before .before .before .before .before .before .before .before .pre .1 .1))
+type-check-expression-has-one-operand-requires : (t : ℕ) → type-check-expression-lts.Need-has-one-operand-requires (type-check-expression-claims t) (type-check-expression-at t) type-check-expression.Post
+type-check-expression-has-one-operand-requires t c κs = search needs
+
+type-check-expression-one-operand-requires : (t : ℕ) → type-check-expression-lts.Need-one-operand-requires (type-check-expression-claims t) (type-check-expression-at t) type-check-expression.Post
+type-check-expression-one-operand-requires t c κs = (omega (arith, c .before .before .before .before .before .before .before .before .before .before .before .before .before .before .pre .0), (heads.one-operand-in (c .before .before .before .before .before .before .before .before .enter .ensures) (heads.one-here (c .before .before .before .before .before .before .before .before .before .before .before .before .before .before .pre .1 .0) (c .before .before .before .before .before .before .before .before .enter .ensures .opened) (sym (c .before .before .before .before .before .has-one-operand .ensures) ∙ c .before .before .before .before .if2 .taken)), c .before .before .before .before .before .before .before .before .before .before .before .before .before .before .pre .1 .1))
+
+type-check-expression-same-length-3 : (t : ℕ) → type-check-expression-lts.Need-same-length-3 (type-check-expression-claims t) (type-check-expression-at t) type-check-expression.Post
+type-check-expression-same-length-3 t c = search needs
 
 type-check-expression-same-length-4 : (t : ℕ) → type-check-expression-lts.Need-same-length-4 (type-check-expression-claims t) (type-check-expression-at t) type-check-expression.Post
 type-check-expression-same-length-4 t c = search needs
@@ -435,30 +407,14 @@ type-check-expression-same-length-4 t c = search needs
 type-check-expression-same-length-5 : (t : ℕ) → type-check-expression-lts.Need-same-length-5 (type-check-expression-claims t) (type-check-expression-at t) type-check-expression.Post
 type-check-expression-same-length-5 t c = search needs
 
+type-check-expression-returns-2 : (t : ℕ) → type-check-expression-lts.Need-returns-2 (type-check-expression-claims t) (type-check-expression-at t) type-check-expression.Post
+type-check-expression-returns-2 t c = heads.carried-in (c .before .before .before .before .before .before .before .before .before .before .before .before .before .before .before .enter .ensures) (c .before .before .before .before .before .before .one-operand .ensures)
+
+type-check-expression-two-operands-requires : (t : ℕ) → type-check-expression-lts.Need-two-operands-requires (type-check-expression-claims t) (type-check-expression-at t) type-check-expression.Post
+type-check-expression-two-operands-requires t c κs = (omega (arith, c .before .before .before .before .before .before .before .before .before .before .before .before .before .before .pre .0), (heads.two-operands-in (c .before .before .before .before .before .before .before .before .enter .ensures) (heads.two-here (c .before .before .before .before .before .before .before .before .before .before .before .before .before .before .pre .1 .0) (c .before .before .before .before .before .before .before .before .enter .ensures .opened) (c .before .before .before .before .before .before .before .if1 .left) (c .before .before .before .before .before .before .match .rest .0 .0 .1) (c .before .before .before .before .before .before .match .rest .0 .1) (c .before .before .before .before .before .before .match .rest .1) (sym (c .before .before .before .before .before .has-one-operand .ensures) ∙ c .before .before .before .before .if2 .left)), c .before .before .before .before .before .before .before .before .before .before .before .before .before .before .pre .1 .1))
+
 type-check-expression-same-length-6 : (t : ℕ) → type-check-expression-lts.Need-same-length-6 (type-check-expression-claims t) (type-check-expression-at t) type-check-expression.Post
 type-check-expression-same-length-6 t c = search needs
-
-type-check-expression-returns-2 : (t : ℕ) → type-check-expression-lts.Need-returns-2 (type-check-expression-claims t) (type-check-expression-at t) type-check-expression.Post
-type-check-expression-returns-2 t c = c .before .before .before .before .before .before .one-operand .ensures
-
-type-check-expression-two-operands-requires-2 :
-    (t : ℕ) → type-check-expression-lts.Need-two-operands-requires-2 (
-      enter-reads.Asked,
-      enter-reads.Learnt,
-      leaf-reads.Asked,
-      leaf-reads.Learnt,
-      call-below t,
-      call.Post,
-      two-operands-below t,
-      two-operands.Post,
-      cast-below t,
-      cast.Post,
-      sizeof-reads.Asked,
-      sizeof-reads.Learnt,
-      one-operand-below t,
-      one-operand.Post,
-    ) (type-check-expression-at t) type-check-expression.Post
-type-check-expression-two-operands-requires-2 t c κs = (omega (arith, c .before .before .before .before .before .before .before .before .before .before .before .before .before .pre .0), (heads.two-operands (c .before .before .before .before .before .before .before .before .before .before .before .before .before .pre .1 .0) (c .before .before .before .before .before .before .before .enter .ensures) (c .before .before .before .before .if2 .left) (heads.operator-high (c .before .before .before .before .before .before .before .before .before .before .before .before .before .pre .1 .0) (c .before .before .before .before .before .before .before .enter .ensures) (c .before .before .before .before .before .match .rest .1)), c .before .before .before .before .before .before .before .before .before .before .before .before .before .pre .1 .1))
 
 type-check-expression-same-length-7 : (t : ℕ) → type-check-expression-lts.Need-same-length-7 (type-check-expression-claims t) (type-check-expression-at t) type-check-expression.Post
 type-check-expression-same-length-7 t c = search needs
@@ -466,11 +422,11 @@ type-check-expression-same-length-7 t c = search needs
 type-check-expression-same-length-8 : (t : ℕ) → type-check-expression-lts.Need-same-length-8 (type-check-expression-claims t) (type-check-expression-at t) type-check-expression.Post
 type-check-expression-same-length-8 t c = search needs
 
-type-check-expression-same-length-9 : (t : ℕ) → type-check-expression-lts.Need-same-length-9 (type-check-expression-claims t) (type-check-expression-at t) type-check-expression.Post
-type-check-expression-same-length-9 t c = search needs
-
 type-check-expression-returns-3 : (t : ℕ) → type-check-expression-lts.Need-returns-3 (type-check-expression-claims t) (type-check-expression-at t) type-check-expression.Post
 type-check-expression-returns-3 t c = c .before .before .before .before .before .before .call .ensures
+
+type-check-expression-same-length-9 : (t : ℕ) → type-check-expression-lts.Need-same-length-9 (type-check-expression-claims t) (type-check-expression-at t) type-check-expression.Post
+type-check-expression-same-length-9 t c = search needs
 
 type-check-expression-same-length-10 : (t : ℕ) → type-check-expression-lts.Need-same-length-10 (type-check-expression-claims t) (type-check-expression-at t) type-check-expression.Post
 type-check-expression-same-length-10 t c = search needs
@@ -478,11 +434,11 @@ type-check-expression-same-length-10 t c = search needs
 type-check-expression-same-length-11 : (t : ℕ) → type-check-expression-lts.Need-same-length-11 (type-check-expression-claims t) (type-check-expression-at t) type-check-expression.Post
 type-check-expression-same-length-11 t c = search needs
 
+type-check-expression-returns-4 : (t : ℕ) → type-check-expression-lts.Need-returns-4 (type-check-expression-claims t) (type-check-expression-at t) type-check-expression.Post
+type-check-expression-returns-4 t c = c .before .before .before .before .before .before .cast .ensures
+
 type-check-expression-same-length-12 : (t : ℕ) → type-check-expression-lts.Need-same-length-12 (type-check-expression-claims t) (type-check-expression-at t) type-check-expression.Post
 type-check-expression-same-length-12 t c = search needs
-
-type-check-expression-returns-4 : (t : ℕ) → type-check-expression-lts.Need-returns-4 (type-check-expression-claims t) (type-check-expression-at t) type-check-expression.Post
-type-check-expression-returns-4 t c = c .before .before .before .before .before .before .two-operands .ensures
 
 type-check-expression-same-length-13 : (t : ℕ) → type-check-expression-lts.Need-same-length-13 (type-check-expression-claims t) (type-check-expression-at t) type-check-expression.Post
 type-check-expression-same-length-13 t c = search needs
@@ -490,11 +446,11 @@ type-check-expression-same-length-13 t c = search needs
 type-check-expression-same-length-14 : (t : ℕ) → type-check-expression-lts.Need-same-length-14 (type-check-expression-claims t) (type-check-expression-at t) type-check-expression.Post
 type-check-expression-same-length-14 t c = search needs
 
+type-check-expression-returns-5 : (t : ℕ) → type-check-expression-lts.Need-returns-5 (type-check-expression-claims t) (type-check-expression-at t) type-check-expression.Post
+type-check-expression-returns-5 t c = c .before .before .before .before .before .before .sizeof .ensures
+
 type-check-expression-same-length-15 : (t : ℕ) → type-check-expression-lts.Need-same-length-15 (type-check-expression-claims t) (type-check-expression-at t) type-check-expression.Post
 type-check-expression-same-length-15 t c = search needs
-
-type-check-expression-returns-5 : (t : ℕ) → type-check-expression-lts.Need-returns-5 (type-check-expression-claims t) (type-check-expression-at t) type-check-expression.Post
-type-check-expression-returns-5 t c = c .before .before .before .before .before .before .cast .ensures
 
 type-check-expression-same-length-16 : (t : ℕ) → type-check-expression-lts.Need-same-length-16 (type-check-expression-claims t) (type-check-expression-at t) type-check-expression.Post
 type-check-expression-same-length-16 t c = search needs
@@ -502,29 +458,14 @@ type-check-expression-same-length-16 t c = search needs
 type-check-expression-same-length-17 : (t : ℕ) → type-check-expression-lts.Need-same-length-17 (type-check-expression-claims t) (type-check-expression-at t) type-check-expression.Post
 type-check-expression-same-length-17 t c = search needs
 
-type-check-expression-same-length-18 : (t : ℕ) → type-check-expression-lts.Need-same-length-18 (type-check-expression-claims t) (type-check-expression-at t) type-check-expression.Post
-type-check-expression-same-length-18 t c = search needs
-
 type-check-expression-returns-6 : (t : ℕ) → type-check-expression-lts.Need-returns-6 (type-check-expression-claims t) (type-check-expression-at t) type-check-expression.Post
-type-check-expression-returns-6 t c = c .before .before .before .before .before .before .sizeof .ensures
-
-type-check-expression-same-length-19 : (t : ℕ) → type-check-expression-lts.Need-same-length-19 (type-check-expression-claims t) (type-check-expression-at t) type-check-expression.Post
-type-check-expression-same-length-19 t c = search needs
-
-type-check-expression-same-length-20 : (t : ℕ) → type-check-expression-lts.Need-same-length-20 (type-check-expression-claims t) (type-check-expression-at t) type-check-expression.Post
-type-check-expression-same-length-20 t c = search needs
-
-type-check-expression-same-length-21 : (t : ℕ) → type-check-expression-lts.Need-same-length-21 (type-check-expression-claims t) (type-check-expression-at t) type-check-expression.Post
-type-check-expression-same-length-21 t c = search needs
-
-type-check-expression-returns-7 : (t : ℕ) → type-check-expression-lts.Need-returns-7 (type-check-expression-claims t) (type-check-expression-at t) type-check-expression.Post
-type-check-expression-returns-7 t c = c .before .before .before .before .before .before .two-operands2 .ensures
+type-check-expression-returns-6 t c = heads.carried-in (c .before .before .before .before .before .before .before .before .before .before .before .before .before .before .before .enter .ensures) (c .before .before .before .before .before .before .two-operands .ensures)
 
 abbrev type-check-expressions-Inv-loop : type-check-expressions-lts.InvT-loop
-type-check-expressions-Inv-loop s names work from end depth output₀ errors₀ rows₀ buckets₀ at₀ next₀ output errors rows buckets at next = lists.Checking s names depth end from (lent work output₀ errors₀ rows₀ buckets₀ next₀) at (lent work output errors rows buckets next) × (length errors ≡ length errors₀)
+type-check-expressions-Inv-loop s names work output₀ errors₀ rows₀ index₀ end depth at₀ next₀ output errors rows index at next = lists.Checking s names depth end at₀ (lent work output₀ errors₀ rows₀ index₀ next₀) at (lent work output errors rows index next) × (length errors ≡ length errors₀)
 
 abbrev type-check-expressions-μ-loop : type-check-expressions-lts.MeasureT-loop
-type-check-expressions-μ-loop s names work from end depth output₀ errors₀ rows₀ buckets₀ at₀ next₀ output errors rows buckets at next = end - at
+type-check-expressions-μ-loop s names work output₀ errors₀ rows₀ index₀ end depth at₀ next₀ output errors rows index at next = end - at
 
 type-check-expressions-loop-holds : (t : ℕ) → type-check-expressions-lts.Need-loop-holds (type-check-expressions-claims t)
     (type-check-expressions-at t)
@@ -578,7 +519,7 @@ type-check-expressions-loop-again : (t : ℕ) → type-check-expressions-lts.Nee
     type-check-expressions.Post
     type-check-expressions-Inv-loop
     type-check-expressions-μ-loop
-type-check-expressions-loop-again t c = (lists.checking-on _ _ _ _ (c .before .before .before .before .before .before .before .before .before .before .before .before .before .before .loop .inv .0) (c .before .before .before .before .before .before .before .before .before .before .before .before .before .loop-test .taken) (c .before .before .before .before .before .before .before .before .type-check-expression .ensures) _ (heads.stops-at _ _ _ (c .length-at .ensures)), omega (arith, c .before .before .before .before .before .before .before .before .type-check-expression .kept .1 .1 .1 .1 .1 .1 .0, c .before .before .before .before .before .before .before .before .before .before .before .before .before .before .loop .inv .1))
+type-check-expressions-loop-again t c = (lists.checking-on _ _ _ _ (c .before .before .before .before .before .before .before .before .before .before .before .before .before .before .loop .inv .0) (c .before .before .before .before .before .before .before .before .before .before .before .before .before .loop-test .taken) (c .before .before .before .before .before .before .before .before .type-check-expression .ensures) _ (heads.stops-at _ _ _ (c .length-at .ensures)), omega (arith, c .before .before .before .before .before .before .before .before .type-check-expression .kept .1 .1 .1 .1 .1 .0, c .before .before .before .before .before .before .before .before .before .before .before .before .before .before .loop .inv .1))
 
 type-check-expressions-same-length : (t : ℕ) → type-check-expressions-lts.Need-same-length (type-check-expressions-claims t)
     (type-check-expressions-at t)
@@ -632,13 +573,13 @@ pub +call+cast+one-operand+two-operands+type-check-expression+type-check-express
     )
     (call-at t)
     call.Post
-    (call-add-first t)
-    (call-sub-inner t)
+    (call-add-at t)
+    (call-sub-depth t)
     (call-type-check-expression-requires t)
     (call-length-at-requires t)
     (call-add-from t)
     (call-length-at-requires-2 t)
-    (call-add-stop t)
+    (call-add-end t)
     (call-type-check-expressions-requires t)
     (call-call-result-requires t)
     (call-put-slot-requires t)
@@ -660,11 +601,11 @@ pub +call+cast+one-operand+two-operands+type-check-expression+type-check-express
     )
     (cast-at t)
     cast.Post
-    (cast-add-first t)
-    (cast-sub-inner t)
+    (cast-add-at t)
+    (cast-sub-depth t)
     (cast-type-check-expression-requires t)
     (cast-length-at-requires t)
-    (cast-add-second t)
+    (cast-add-place t)
     (cast-convert-node-type-requires t)
     (cast-cast-requires t)
     (cast-put-slot-requires t)
@@ -682,7 +623,7 @@ pub +call+cast+one-operand+two-operands+type-check-expression+type-check-express
     )
     (one-operand-at t)
     one-operand.Post
-    (one-operand-sub-inner t)
+    (one-operand-sub-depth t)
     (one-operand-type-check-expression-requires t)
     (one-operand-unary-requires t)
     (one-operand-put-slot-requires t)
@@ -702,10 +643,10 @@ pub +call+cast+one-operand+two-operands+type-check-expression+type-check-express
     )
     (two-operands-at t)
     two-operands.Post
-    (two-operands-sub-inner t)
+    (two-operands-sub-depth t)
     (two-operands-type-check-expression-requires t)
     (two-operands-length-at-requires t)
-    (two-operands-add-second t)
+    (two-operands-add-place t)
     (two-operands-type-check-expression-requires-2 t)
     (two-operands-binary-requires t)
     (two-operands-put-slot-requires t)
@@ -713,60 +654,41 @@ pub +call+cast+one-operand+two-operands+type-check-expression+type-check-express
     (two-operands-same-length-2 t)
     (two-operands-same-length-3 t)
     (two-operands-returns t))
-    (λ t. type-check-expression-lts.spec (
-      enter-reads.Asked,
-      enter-reads.Learnt,
-      leaf-reads.Asked,
-      leaf-reads.Learnt,
-      call-below t,
-      call.Post,
-      two-operands-below t,
-      two-operands.Post,
-      cast-below t,
-      cast.Post,
-      sizeof-reads.Asked,
-      sizeof-reads.Learnt,
-      one-operand-below t,
-      one-operand.Post,
-    )
+    (λ t. type-check-expression-lts.spec
+    (type-check-expression-claims t)
     (type-check-expression-at t)
     type-check-expression.Post
     (type-check-expression-enter-requires t)
     (type-check-expression-leaf-requires t)
     (type-check-expression-same-length t)
     (type-check-expression-same-length-2 t)
-    (type-check-expression-same-length-3 t)
     (type-check-expression-returns t)
     (type-check-expression-call-requires t)
-    (type-check-expression-two-operands-requires t)
     (type-check-expression-cast-requires t)
     (type-check-expression-sizeof-requires t)
+    (type-check-expression-has-one-operand-requires t)
     (type-check-expression-one-operand-requires t)
+    (type-check-expression-same-length-3 t)
     (type-check-expression-same-length-4 t)
     (type-check-expression-same-length-5 t)
-    (type-check-expression-same-length-6 t)
     (type-check-expression-returns-2 t)
-    (type-check-expression-two-operands-requires-2 t)
+    (type-check-expression-two-operands-requires t)
+    (type-check-expression-same-length-6 t)
     (type-check-expression-same-length-7 t)
     (type-check-expression-same-length-8 t)
-    (type-check-expression-same-length-9 t)
     (type-check-expression-returns-3 t)
+    (type-check-expression-same-length-9 t)
     (type-check-expression-same-length-10 t)
     (type-check-expression-same-length-11 t)
-    (type-check-expression-same-length-12 t)
     (type-check-expression-returns-4 t)
+    (type-check-expression-same-length-12 t)
     (type-check-expression-same-length-13 t)
     (type-check-expression-same-length-14 t)
-    (type-check-expression-same-length-15 t)
     (type-check-expression-returns-5 t)
+    (type-check-expression-same-length-15 t)
     (type-check-expression-same-length-16 t)
     (type-check-expression-same-length-17 t)
-    (type-check-expression-same-length-18 t)
-    (type-check-expression-returns-6 t)
-    (type-check-expression-same-length-19 t)
-    (type-check-expression-same-length-20 t)
-    (type-check-expression-same-length-21 t)
-    (type-check-expression-returns-7 t))
+    (type-check-expression-returns-6 t))
     λ t. type-check-expressions-lts.spec (
       type-check-expression-below t,
       type-check-expression.Post,

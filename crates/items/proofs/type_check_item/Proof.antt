@@ -1,6 +1,5 @@
 -- `items::type_check_item` meets its contract. Assumes nothing.
 use Rattle.items.proofs.Items as laws
-use mathlib.Core.Path.{sym, _∙_}
 use native.Mathlib.Omega.{arith}
 use borrow.Author.Needs.{needs}
 use Rattle.items.proofs.type_check_item.Statement.{statement}
@@ -10,19 +9,13 @@ add-half : tie.Need-add-half
 add-half c = search needs
 
 half-requires : tie.Need-half-requires
-half-requires c κs = omega (arith, laws.item-room (c .before .before .before .before .before .pre .0))
+half-requires c κs = omega (arith, laws.item-room (c .before .before .before .before .before .before .pre .0))
 
 type-check-function-requires : tie.Need-type-check-function-requires
 type-check-function-requires c κs = search needs
 
-add-convert-node-type : tie.Need-add-convert-node-type
-add-convert-node-type c = search needs
-
-sub-convert-node-type : tie.Need-sub-convert-node-type
-sub-convert-node-type c = omega (arith, laws.alias (c .before .before .before .before .before .before .before .before .pre .0) (sym (c .before .before .half .ensures .is) ∙ c .before .match .keys2) .room .deep)
-
-convert-node-type-requires : tie.Need-convert-node-type-requires
-convert-node-type-requires c κs = (laws.alias (c .before .before .before .before .before .before .before .before .before .before .before .before .pre .0) (sym (c .before .before .before .before .before .before .half .ensures .is) ∙ c .before .before .before .before .before .match .keys2) .type, c .before .before .before .before .before .before .before .before .before .before .before .before .pre .1)
+type-check-alias-requires : tie.Need-type-check-alias-requires
+type-check-alias-requires c κs = search needs
 
 type-check-variable-requires : tie.Need-type-check-variable-requires
 type-check-variable-requires c κs = search needs
@@ -55,7 +48,7 @@ same-length-8 : tie.Need-same-length-8
 same-length-8 c = search needs
 
 returns-2 : tie.Need-returns-2
-returns-2 c = laws.alias-checked (c .before .before .before .before .before .before .before .before .before .before .before .before .before .before .before .before .before .before .before .before .pre .0) (sym (c .before .before .before .before .before .before .before .before .before .before .before .before .before .before .half .ensures .is) ∙ c .before .before .before .before .before .before .before .before .before .before .before .before .before .match .keys2) (c .before .before .before .before .before .before .before .convert-node-type .ensures)
+returns-2 c = search needs
 
 same-length-9 : tie.Need-same-length-9
 same-length-9 c = search needs
@@ -73,7 +66,7 @@ returns-3 : tie.Need-returns-3
 returns-3 c = search needs
 
 returns-4 : tie.Need-returns-4
-returns-4 c = laws.other-checked (c .before .before .before .before .before .before .before .pre .0) (c .before .before .before .before .before .before .before .pre .1) _ (c .before .half .ensures) (c .match .rest .0 .0 .1) (c .match .rest .0 .1) (c .match .rest .1)
+returns-4 c = laws.other-checked (c .before .before .before .before .before .before .before .before .pre .0) (c .before .before .before .before .before .before .before .before .pre .1) _ (c .before .half .ensures) (c .match .rest .0 .0 .1) (c .match .rest .0 .1) (c .match .rest .1)
 
 pub type-check-item-spec : {M : Type 1} → statement M
 type-check-item-spec =
@@ -82,9 +75,7 @@ type-check-item-spec =
     add-half
     half-requires
     type-check-function-requires
-    add-convert-node-type
-    sub-convert-node-type
-    convert-node-type-requires
+    type-check-alias-requires
     type-check-variable-requires
     same-length
     same-length-2

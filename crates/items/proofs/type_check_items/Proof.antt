@@ -1,7 +1,7 @@
 -- `items::type_check_items` meets its contract. The loop: what is left to do does what is left of the whole. Assumes nothing.
 use Rattle.items.proofs.Items as laws
 use Rattle.expression.proofs.Heads as heads
-use Rattle.state.specs.Represents.{lent}
+use Rattle.walk.specs.Represents.{lent}
 use lib.ListN.{length}
 use Prim.Native.Nat.{_-_}
 use borrow.Author.Needs.{needs}
@@ -11,10 +11,10 @@ use Rattle.items.proofs.type_check_items.Statement.{statement}
 use Rattle.items.proofs.type_check_items.Tie as tie
 
 abbrev Inv-loop : tie.InvT-loop
-Inv-loop s names work₀ from end depth output₀ errors₀ rows₀ buckets₀ at₀ next₀ work output errors rows buckets at next = laws.Checking s names depth end from at (lent work₀ output₀ errors₀ rows₀ buckets₀ next₀) (lent work output errors rows buckets next) × (length errors ≡ length errors₀)
+Inv-loop s names work₀ output₀ errors₀ rows₀ index₀ end depth at₀ next₀ work output errors rows index at next = laws.Checking s names depth end at₀ at (lent work₀ output₀ errors₀ rows₀ index₀ next₀) (lent work output errors rows index next) × (length errors ≡ length errors₀)
 
 abbrev μ-loop : tie.MeasureT-loop
-μ-loop s names work₀ from end depth output₀ errors₀ rows₀ buckets₀ at₀ next₀ work output errors rows buckets at next = end - at
+μ-loop s names work₀ output₀ errors₀ rows₀ index₀ end depth at₀ next₀ work output errors rows index at next = end - at
 
 loop-holds : tie.Need-loop-holds Inv-loop μ-loop
 loop-holds c = (laws.checking-start _ _ _ _ (c .before .before .before .before .before .pre .0) (c .before .before .before .before .before .pre .1), refl)
@@ -32,7 +32,7 @@ loop-less : tie.Need-loop-less Inv-loop μ-loop
 loop-less c = let b = laws.first-room _ _ _ _ (c .before .before .before .before .before .before .before .before .before .before .before .before .before .before .before .before .loop .inv .0) (c .before .before .before .before .before .before .before .before .before .before .before .before .before .before .before .loop-test .taken) in omega (arith, b, c .length-at .ensures .is)
 
 loop-again : tie.Need-loop-again Inv-loop μ-loop
-loop-again c = (laws.checking-on _ _ _ _ (c .before .before .before .before .before .before .before .before .before .before .before .before .before .before .before .before .loop .inv .0) (c .before .before .before .before .before .before .before .before .before .before .before .before .before .before .before .loop-test .taken) (c .before .before .before .before .before .before .before .before .before .type-check-item .ensures) _ (heads.stops-at _ _ _ (c .length-at .ensures)), c .before .before .before .before .before .before .before .before .before .type-check-item .kept .1 .1 .1 .1 .1 .1 .0 ∙ c .before .before .before .before .before .before .before .before .before .before .before .before .before .before .before .before .loop .inv .1)
+loop-again c = (laws.checking-on _ _ _ _ (c .before .before .before .before .before .before .before .before .before .before .before .before .before .before .before .before .loop .inv .0) (c .before .before .before .before .before .before .before .before .before .before .before .before .before .before .before .loop-test .taken) (c .before .before .before .before .before .before .before .before .before .type-check-item .ensures) _ (heads.stops-at _ _ _ (c .length-at .ensures)), c .before .before .before .before .before .before .before .before .before .type-check-item .kept .1 .1 .1 .1 .1 .0 ∙ c .before .before .before .before .before .before .before .before .before .before .before .before .before .before .before .before .loop .inv .1)
 
 same-length : tie.Need-same-length Inv-loop μ-loop
 same-length c = search needs

@@ -1,7 +1,7 @@
 -- `items::type_check_parameters` meets its contract. The loop: the parameters before `at` are checked. Assumes nothing.
 use Rattle.items.proofs.Parameters as laws
 use Rattle.expression.proofs.Heads as heads
-use Rattle.state.specs.Represents.{lent}
+use Rattle.walk.specs.Represents.{lent}
 use lib.ListN.{length}
 use Prim.Native.Nat.{_-_}
 use borrow.Author.Needs.{needs}
@@ -11,10 +11,10 @@ use Rattle.items.proofs.type_check_parameters.Statement.{statement}
 use Rattle.items.proofs.type_check_parameters.Tie as tie
 
 abbrev Inv-loop : tie.InvT-loop
-Inv-loop s names work₀ from end depth output₀ errors₀ rows₀ buckets₀ at₀ next₀ work output errors rows buckets at next = laws.Entering s names depth from end at (lent work₀ output₀ errors₀ rows₀ buckets₀ next₀) (lent work output errors rows buckets next) × (length errors ≡ length errors₀)
+Inv-loop s names work₀ output₀ errors₀ rows₀ index₀ end levels at₀ next₀ work output errors rows index at next = laws.Entering s names levels at₀ end at (lent work₀ output₀ errors₀ rows₀ index₀ next₀) (lent work output errors rows index next) × (length errors ≡ length errors₀)
 
 abbrev μ-loop : tie.MeasureT-loop
-μ-loop s names work₀ from end depth output₀ errors₀ rows₀ buckets₀ at₀ next₀ work output errors rows buckets at next = end - at
+μ-loop s names work₀ output₀ errors₀ rows₀ index₀ end levels at₀ next₀ work output errors rows index at next = end - at
 
 loop-holds : tie.Need-loop-holds Inv-loop μ-loop
 loop-holds c = (laws.entering-start _ _ _ _ _ (c .before .before .before .before .before .pre .0) (c .before .before .before .before .before .pre .1), refl)
@@ -40,11 +40,11 @@ same-length-4 c = search needs
 returns : tie.Need-returns Inv-loop μ-loop
 returns c = laws.entering-body _ _ _ _ _ (c .before .before .before .loop .inv .0) (c .before .before .loop-test .taken) (c .before .half .ensures) (c .if1 .taken)
 
-add-convert-node-type : tie.Need-add-convert-node-type Inv-loop μ-loop
-add-convert-node-type c = let p = laws.parameter _ _ _ _ _ (c .before .before .before .before .loop .inv .0) (c .before .before .before .loop-test .taken) (c .before .before .half .ensures) (c .before .if1 .left) in omega (arith, p .room .head, p .room .ends, p .room .few)
+add-start : tie.Need-add-start Inv-loop μ-loop
+add-start c = let p = laws.parameter _ _ _ _ _ (c .before .before .before .loop .inv .0) (c .before .before .loop-test .taken) (c .before .half .ensures) (c .if1 .left) in omega (arith, p .room .head, p .room .ends, p .room .few)
 
-sub-convert-node-type : tie.Need-sub-convert-node-type Inv-loop μ-loop
-sub-convert-node-type c = omega (arith, laws.parameter _ _ _ _ _ (c .before .before .before .before .loop .inv .0) (c .before .before .before .loop-test .taken) (c .before .before .half .ensures) (c .before .if1 .left) .room .deep)
+sub-depth : tie.Need-sub-depth Inv-loop μ-loop
+sub-depth c = omega (arith, laws.parameter _ _ _ _ _ (c .before .before .before .loop .inv .0) (c .before .before .loop-test .taken) (c .before .half .ensures) (c .if1 .left) .room .deep)
 
 convert-node-type-requires : tie.Need-convert-node-type-requires Inv-loop μ-loop
 convert-node-type-requires c κs = (laws.parameter _ _ _ _ _ (c .before .before .before .before .before .before .before .before .loop .inv .0) (c .before .before .before .before .before .before .before .loop-test .taken) (c .before .before .before .before .before .before .half .ensures) (c .before .before .before .before .before .if1 .left) .type, c .before .before .before .before .before .before .before .before .loop .inv .0 .ready)
@@ -68,7 +68,7 @@ loop-less : tie.Need-loop-less Inv-loop μ-loop
 loop-less c = let p = laws.parameter _ _ _ _ _ (c .before .before .before .before .before .before .before .before .before .before .before .before .before .before .before .before .before .before .before .before .before .before .loop .inv .0) (c .before .before .before .before .before .before .before .before .before .before .before .before .before .before .before .before .before .before .before .before .before .loop-test .taken) (c .before .before .before .before .before .before .before .before .before .before .before .before .before .before .before .before .before .before .before .before .half .ensures) (c .before .before .before .before .before .before .before .before .before .before .before .before .before .before .before .before .before .before .before .if1 .left) in omega (arith, p .room .head, c .before .before .before .before .before .before .before .before .before .before .before .before .before .before .before .before .before .before .before .before .before .loop-test .taken, c .length-at .ensures .is)
 
 loop-again : tie.Need-loop-again Inv-loop μ-loop
-loop-again c = (laws.entering-on _ _ _ _ _ (c .before .before .before .before .before .before .before .before .before .before .before .before .before .before .before .before .before .before .before .before .before .before .loop .inv .0) (laws.parameter _ _ _ _ _ (c .before .before .before .before .before .before .before .before .before .before .before .before .before .before .before .before .before .before .before .before .before .before .loop .inv .0) (c .before .before .before .before .before .before .before .before .before .before .before .before .before .before .before .before .before .before .before .before .before .loop-test .taken) (c .before .before .before .before .before .before .before .before .before .before .before .before .before .before .before .before .before .before .before .before .half .ensures) (c .before .before .before .before .before .before .before .before .before .before .before .before .before .before .before .before .before .before .before .if1 .left)) (c .before .before .before .before .before .before .before .before .before .before .before .before .before .convert-node-type .ensures) _ (c .before .before .before .before .before .before .word .ensures) _ (c .before .before .before .before .set-word .ensures) _ (heads.stops-at _ _ _ (c .length-at .ensures)), omega (arith, c .before .before .before .before .before .before .before .before .before .before .before .before .before .convert-node-type .kept .1 .1 .1 .1 .1 .1 .0, c .before .before .before .before .before .before .before .before .before .before .before .before .before .before .before .before .before .before .before .before .before .before .loop .inv .1))
+loop-again c = (laws.entering-on _ _ _ _ _ (c .before .before .before .before .before .before .before .before .before .before .before .before .before .before .before .before .before .before .before .before .before .before .loop .inv .0) (laws.parameter _ _ _ _ _ (c .before .before .before .before .before .before .before .before .before .before .before .before .before .before .before .before .before .before .before .before .before .before .loop .inv .0) (c .before .before .before .before .before .before .before .before .before .before .before .before .before .before .before .before .before .before .before .before .before .loop-test .taken) (c .before .before .before .before .before .before .before .before .before .before .before .before .before .before .before .before .before .before .before .before .half .ensures) (c .before .before .before .before .before .before .before .before .before .before .before .before .before .before .before .before .before .before .before .if1 .left)) (c .before .before .before .before .before .before .before .before .before .before .before .before .before .convert-node-type .ensures) _ (c .before .before .before .before .before .before .word .ensures) _ (c .before .before .before .before .set-word .ensures) _ (heads.stops-at _ _ _ (c .length-at .ensures)), omega (arith, c .before .before .before .before .before .before .before .before .before .before .before .before .before .convert-node-type .kept .1 .1 .1 .1 .1 .0, c .before .before .before .before .before .before .before .before .before .before .before .before .before .before .before .before .before .before .before .before .before .before .loop .inv .1))
 
 same-length-5 : tie.Need-same-length-5 Inv-loop μ-loop
 same-length-5 c = search needs
@@ -99,8 +99,8 @@ type-check-parameters-spec =
     same-length-3
     same-length-4
     returns
-    add-convert-node-type
-    sub-convert-node-type
+    add-start
+    sub-depth
     convert-node-type-requires
     add-word
     word-requires

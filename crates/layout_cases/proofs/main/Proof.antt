@@ -1,7 +1,6 @@
 -- `main` is safe and ends. Assumes nothing.
 use Prim.Native.Nat.{_≤_}
 use mathlib.Core.Path.{_≡_}
-use native.Mathlib.Omega.{arith}
 use lib.ListN.{length}
 use borrow.Author.Needs.{needs}
 use Rattle.layout_cases.proofs.main.Statement.{statement}

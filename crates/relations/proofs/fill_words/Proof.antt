@@ -2,13 +2,13 @@ use Prim.Native.Nat.{_-_, _≤_}
 use mathlib.Core.Path.{refl}
 use borrow.Author.Needs.{needs}
 use native.Mathlib.Omega.{arith}
-use Rattle.relations.specs.Entry.{Filled}
+use Rattle.relations.specs.Entry.{WorkFilled}
 use Rattle.relations.proofs.FillLaws.{fill-none, fill-due, fill-more, fill-done}
 use Rattle.relations.proofs.fill_words.Statement.{statement}
 use Rattle.relations.proofs.fill_words.Tie as tie
 
 abbrev Inv-loop : tie.InvT-loop
-Inv-loop rows count work₀ i₀ work i = (i ≤ count) × Filled rows i work₀ work
+Inv-loop rows count work₀ i₀ work i = (i ≤ count) × WorkFilled rows i work₀ work
 
 abbrev μ-loop : tie.MeasureT-loop
 μ-loop rows count work₀ i₀ work i = count - i

@@ -1,7 +1,7 @@
 -- `rows::skip_rows` meets its contract. The loop: none of the rows that were passed has the key.
 use native.Mathlib.Omega.{arith}
 use borrow.Author.Needs.{needs}
-use Prim.Native.Nat.{_≤_, _-_}
+use Prim.Native.Nat.{_-_}
 use Rattle.rows.specs.Search.{Skipped}
 use Rattle.rows.proofs.Search as laws
 use Rattle.rows.proofs.skip_rows.Statement.{statement}

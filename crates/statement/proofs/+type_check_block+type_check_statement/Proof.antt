@@ -3,7 +3,7 @@
 use native.Mathlib.Omega.{arith}
 use mathlib.Core.Path.{_≡_, refl}
 use lib.ListN.{length}
-use Rattle.state.specs.Represents.{lent}
+use Rattle.walk.specs.Represents.{lent}
 use Rattle.expression.proofs.Heads as heads
 use Rattle.statement.proofs.Blocks as blocks
 use Prim.Native.Nat.{ℕ, _+_, _-_, _*_, _<_}
@@ -22,10 +22,10 @@ use Rattle.statement.proofs.+type_check_block+type_check_statement.{sta
 use Rattle.statement.proofs.+type_check_block+type_check_statement.Tie.{close}
 
 abbrev μ-type-check-block : Measures 6 type-check-block-kinds.ps ℕ
-μ-type-check-block κs a = 2 * a .1 .1 .1 .1 .1 .0 + 1
+μ-type-check-block κs a = 2 * a .1 .1 .1 .0 .depth + 1
 
 abbrev μ-type-check-statement : Measures 6 type-check-statement-kinds.ps ℕ
-μ-type-check-statement κs a = 2 * a .1 .1 .1 .1 .0
+μ-type-check-statement κs a = 2 * a .1 .1 .1 .0 .depth
 
 abbrev type-check-block-at : ℕ → In 6 type-check-block-kinds.ps
 type-check-block-at t =
@@ -60,10 +60,10 @@ type-check-statement-below t =
     type-check-statement.Pre
 
 abbrev type-check-block-Inv-loop : type-check-block-lts.InvT-loop
-type-check-block-Inv-loop s names work₀ from end depth returned output₀ errors₀ rows₀ buckets₀ at₀ next₀ work output errors rows buckets at next = blocks.Checking s names depth end returned from (lent work₀ output₀ errors₀ rows₀ buckets₀ next₀) at (lent work output errors rows buckets next) × (length errors ≡ length errors₀)
+type-check-block-Inv-loop s function work₀ output₀ errors₀ rows₀ index₀ end depth at₀ next₀ work output errors rows index at next = blocks.Checking s (function .names) depth end (function .returned) at₀ (lent work₀ output₀ errors₀ rows₀ index₀ next₀) at (lent work output errors rows index next) × (length errors ≡ length errors₀)
 
 abbrev type-check-block-μ-loop : type-check-block-lts.MeasureT-loop
-type-check-block-μ-loop s names work₀ from end depth returned output₀ errors₀ rows₀ buckets₀ at₀ next₀ work output errors rows buckets at next = end - at
+type-check-block-μ-loop s function work₀ output₀ errors₀ rows₀ index₀ end depth at₀ next₀ work output errors rows index at next = end - at
 
 abbrev type-check-block-claims : ℕ → type-check-block-lts.Claims
 type-check-block-claims t = (
@@ -109,7 +109,7 @@ type-check-block-loop-less : (t : ℕ) → type-check-block-lts.Need-loop-less (
 type-check-block-loop-less t c = omega (arith, blocks.first-bounds _ _ _ _ _ (c .before .before .before .before .before .before .before .before .before .before .before .before .before .before .before .before .loop .inv .0) (c .before .before .before .before .before .before .before .before .before .before .before .before .before .before .before .loop-test .taken) .head, c .before .before .before .before .before .before .before .before .before .before .before .before .before .before .before .loop-test .taken, c .length-at .ensures .is)
 
 type-check-block-loop-again : (t : ℕ) → type-check-block-lts.Need-loop-again (type-check-block-claims t) (type-check-block-at t) type-check-block.Post type-check-block-Inv-loop type-check-block-μ-loop
-type-check-block-loop-again t c = (blocks.checking-on _ _ _ _ _ (c .before .before .before .before .before .before .before .before .before .before .before .before .before .before .before .before .loop .inv .0) (c .before .before .before .before .before .before .before .before .before .before .before .before .before .before .before .loop-test .taken) (c .before .before .before .before .before .before .before .before .before .type-check-statement .ensures) _ (heads.stops-at _ _ _ (c .length-at .ensures)), omega (arith, c .before .before .before .before .before .before .before .before .before .type-check-statement .kept .1 .1 .1 .1 .1 .1 .1 .0, c .before .before .before .before .before .before .before .before .before .before .before .before .before .before .before .before .loop .inv .1))
+type-check-block-loop-again t c = (blocks.checking-on _ _ _ _ _ (c .before .before .before .before .before .before .before .before .before .before .before .before .before .before .before .before .loop .inv .0) (c .before .before .before .before .before .before .before .before .before .before .before .before .before .before .before .loop-test .taken) (c .before .before .before .before .before .before .before .before .before .type-check-statement .ensures) _ (heads.stops-at _ _ _ (c .length-at .ensures)), omega (arith, c .before .before .before .before .before .before .before .before .before .type-check-statement .kept .1 .1 .1 .1 .1 .0, c .before .before .before .before .before .before .before .before .before .before .before .before .before .before .before .before .loop .inv .1))
 
 type-check-block-same-length : (t : ℕ) → type-check-block-lts.Need-same-length (type-check-block-claims t) (type-check-block-at t) type-check-block.Post type-check-block-Inv-loop type-check-block-μ-loop
 type-check-block-same-length t c = omega (arith, c .before .loop .inv .0 .wide)
@@ -146,10 +146,10 @@ type-check-statement-own-parts-requires :
       type-check-block-below t,
       type-check-block.Post,
     ) (type-check-statement-at t) type-check-statement.Post
-type-check-statement-own-parts-requires t c κs = ((c .before .before .before .before .before .before .before .before .before .before .before .pre .1 .0, c .before .before .before .before .before .inner-statements .ensures), c .before .before .before .before .before .before .before .before .before .before .before .pre .1 .1)
+type-check-statement-own-parts-requires t c κs = ((blocks.inner-fine (c .before .before .before .before .before .inner-statements .ensures) (c .before .before .before .before .before .before .before .before .before .before .before .pre .1 .0), blocks.inner-of (c .before .before .before .before .before .inner-statements .ensures)), c .before .before .before .before .before .before .before .before .before .before .before .pre .1 .1)
 
-type-check-statement-sub-type-check-block :
-    (t : ℕ) → type-check-statement-lts.Need-sub-type-check-block (
+type-check-statement-sub-depth :
+    (t : ℕ) → type-check-statement-lts.Need-sub-depth (
       inner-statements-reads.Asked,
       inner-statements-reads.Learnt,
       own-parts-reads.Asked,
@@ -157,7 +157,7 @@ type-check-statement-sub-type-check-block :
       type-check-block-below t,
       type-check-block.Post,
     ) (type-check-statement-at t) type-check-statement.Post
-type-check-statement-sub-type-check-block t c = omega (arith, c .before .before .before .before .before .before .before .before .before .before .before .before .before .before .before .inner-statements .ensures .deep)
+type-check-statement-sub-depth t c = omega (arith, c .before .before .before .before .before .before .before .before .before .before .before .before .before .before .before .inner-statements .ensures .deep)
 
 type-check-statement-type-check-block-requires :
     (t : ℕ) → type-check-statement-lts.Need-type-check-block-requires (
@@ -168,22 +168,22 @@ type-check-statement-type-check-block-requires :
       type-check-block-below t,
       type-check-block.Post,
     ) (type-check-statement-at t) type-check-statement.Post
-type-check-statement-type-check-block-requires t c κs = (omega (arith, c .before .before .before .before .before .before .before .before .before .before .before .before .before .before .before .before .before .before .before .before .before .before .before .before .before .pre .0, c .before .before .before .before .before .before .before .before .before .before .before .before .before .before .before .before .before .before .before .inner-statements .ensures .deep), (c .before .before .before .before .before .before .before .before .before .before .before .before .before .before .before .before .before .before .before .inner-statements .ensures .fine, (blocks.inner-ready (c .before .before .before .before .before .before .before .before .before .before .before .before .before .before .before .before .before .before .before .before .before .before .before .before .before .pre .1 .1 .0) (c .before .before .before .before .before .before .before .before .before .before .before .before .before .own-parts .ensures), blocks.inner-type (c .before .before .before .before .before .before .before .before .before .before .before .before .before .before .before .before .before .before .before .before .before .before .before .before .before .pre .1 .1 .1) (c .before .before .before .before .before .before .before .before .before .before .before .before .before .own-parts .ensures))))
+type-check-statement-type-check-block-requires t c κs = (omega (arith, c .before .before .before .before .before .before .before .before .before .before .before .before .before .before .before .before .before .before .before .before .before .before .before .before .before .before .pre .0, c .before .before .before .before .before .before .before .before .before .before .before .before .before .before .before .before .before .before .before .before .inner-statements .ensures .deep), (c .before .before .before .before .before .before .before .before .before .before .before .before .before .before .before .before .before .before .before .before .inner-statements .ensures .fine, (blocks.inner-ready (c .before .before .before .before .before .before .before .before .before .before .before .before .before .before .before .before .before .before .before .before .before .before .before .before .before .before .pre .1 .1 .0) (c .before .before .before .before .before .before .before .before .before .before .before .before .before .before .own-parts .ensures), blocks.inner-type (c .before .before .before .before .before .before .before .before .before .before .before .before .before .before .before .before .before .before .before .before .before .before .before .before .before .before .pre .1 .1 .1) (c .before .before .before .before .before .before .before .before .before .before .before .before .before .before .own-parts .ensures))))
 
 type-check-statement-same-length : (t : ℕ) → type-check-statement-lts.Need-same-length (type-check-statement-claims t) (type-check-statement-at t) type-check-statement.Post
-type-check-statement-same-length t c = omega (arith, c .before .before .before .before .before .before .before .before .before .before .before .before .before .before .before .before .before .before .before .before .before .before .own-parts .ensures .wide, c .before .before .before .before .before .before .before .before .type-check-block .ensures .wide)
+type-check-statement-same-length t c = omega (arith, c .before .before .before .before .before .before .before .before .before .before .before .before .before .before .before .before .before .before .before .before .before .before .before .own-parts .ensures .wide, c .before .before .before .before .before .before .before .before .type-check-block .ensures .wide)
 
 type-check-statement-same-length-2 : (t : ℕ) → type-check-statement-lts.Need-same-length-2 (type-check-statement-claims t) (type-check-statement-at t) type-check-statement.Post
-type-check-statement-same-length-2 t c = omega (arith, c .before .before .before .before .before .before .before .before .before .before .before .before .before .before .before .before .before .before .before .before .before .before .own-parts .ensures .long, c .before .before .before .before .before .before .before .before .type-check-block .ensures .walked .frame .long)
+type-check-statement-same-length-2 t c = omega (arith, c .before .before .before .before .before .before .before .before .before .before .before .before .before .before .before .before .before .before .before .before .before .before .before .own-parts .ensures .long, c .before .before .before .before .before .before .before .before .type-check-block .ensures .walked .frame .long)
 
 type-check-statement-same-length-3 : (t : ℕ) → type-check-statement-lts.Need-same-length-3 (type-check-statement-claims t) (type-check-statement-at t) type-check-statement.Post
-type-check-statement-same-length-3 t c = omega (arith, c .before .before .before .before .before .before .before .before .before .before .before .before .before .before .before .before .before .before .before .before .before .before .own-parts .kept .1 .1 .1 .1 .1 .1 .1 .1 .0, c .before .before .before .before .before .before .before .before .type-check-block .kept .1 .1 .1 .1 .1 .1 .1 .1 .0)
+type-check-statement-same-length-3 t c = omega (arith, c .before .before .before .before .before .before .before .before .before .before .before .before .before .before .before .before .before .before .before .before .before .before .before .own-parts .kept .1 .1 .1 .1 .1 .0, c .before .before .before .before .before .before .before .before .type-check-block .kept .1 .1 .1 .1 .1 .0)
 
 type-check-statement-same-length-4 : (t : ℕ) → type-check-statement-lts.Need-same-length-4 (type-check-statement-claims t) (type-check-statement-at t) type-check-statement.Post
-type-check-statement-same-length-4 t c = omega (arith, c .before .before .before .before .before .before .before .before .before .before .before .before .before .before .before .before .before .before .before .before .before .before .own-parts .ensures .grew .extends .long, c .before .before .before .before .before .before .before .before .type-check-block .ensures .walked .grew .extends .long)
+type-check-statement-same-length-4 t c = omega (arith, c .before .before .before .before .before .before .before .before .before .before .before .before .before .before .before .before .before .before .before .before .before .before .before .own-parts .ensures .grew .extends .long, c .before .before .before .before .before .before .before .before .type-check-block .ensures .walked .grew .extends .long)
 
 type-check-statement-returns : (t : ℕ) → type-check-statement-lts.Need-returns (type-check-statement-claims t) (type-check-statement-at t) type-check-statement.Post
-type-check-statement-returns t c = c .before .before .before .before .before .before .before .before .before .before .before .before .before .before .before .before .before .before .before .before .before .before .own-parts .ensures .rest _ (c .before .before .before .before .before .before .before .before .type-check-block .ensures)
+type-check-statement-returns t c = blocks.own-node (c .before .before .before .before .before .before .before .before .before .before .before .before .before .before .before .before .before .before .before .before .before .before .before .before .before .before .before .before .before .inner-statements .ensures) (c .before .before .before .before .before .before .before .before .before .before .before .before .before .before .before .before .before .before .before .before .before .before .before .own-parts .ensures) .rest _ (c .before .before .before .before .before .before .before .before .type-check-block .ensures)
 
 pub +type-check-block+type-check-statement-spec : {M : Type 1} → statement M
 +type-check-block+type-check-statement-spec =
@@ -220,7 +220,7 @@ pub +type-check-block+type-check-statement-spec : {M : Type 1} → statement M
     type-check-statement.Post
     (type-check-statement-inner-statements-requires t)
     (type-check-statement-own-parts-requires t)
-    (type-check-statement-sub-type-check-block t)
+    (type-check-statement-sub-depth t)
     (type-check-statement-type-check-block-requires t)
     (type-check-statement-same-length t)
     (type-check-statement-same-length-2 t)

@@ -6,17 +6,17 @@ use borrow.Author.Needs.{needs}
 use Rattle.statement.proofs.condition.Statement.{statement}
 use Rattle.statement.proofs.condition.Tie as tie
 
-add-type-check-expression : tie.Need-add-type-check-expression
-add-type-check-expression c = search needs
+add-at : tie.Need-add-at
+add-at c = search needs
 
-sub-type-check-expression : tie.Need-sub-type-check-expression
-sub-type-check-expression c = omega (arith, heads.deep (c .before .before .before .before .before .pre .0))
+sub-depth : tie.Need-sub-depth
+sub-depth c = omega (arith, heads.deep (c .before .before .before .before .before .before .before .pre .0))
 
 type-check-expression-requires : tie.Need-type-check-expression-requires
 type-check-expression-requires c κs = search needs
 
 check-types-are-assignable-requires : tie.Need-check-types-are-assignable-requires
-check-types-are-assignable-requires c κs = (omega (arith, heads.slot-room (c .before .before .before .before .before .before .before .before .before .before .before .before .before .before .before .before .before .before .pre .0)), laws.condition-types _ _ _ (c .before .before .before .before .before .before .before .before .type-check-expression .ensures))
+check-types-are-assignable-requires c κs = (omega (arith, heads.slot-room (c .before .before .before .before .before .before .before .before .before .before .before .before .before .before .before .before .before .before .before .before .pre .0)), laws.condition-types _ _ _ (c .before .before .before .before .before .before .before .before .type-check-expression .ensures))
 
 same-length : tie.Need-same-length
 same-length c = search needs
@@ -34,8 +34,8 @@ pub condition-spec : {M : Type 1} → statement M
 condition-spec =
     tie.close
     (tie.spec
-    add-type-check-expression
-    sub-type-check-expression
+    add-at
+    sub-depth
     type-check-expression-requires
     check-types-are-assignable-requires
     same-length

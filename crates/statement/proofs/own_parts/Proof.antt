@@ -6,14 +6,8 @@ use borrow.Author.Needs.{needs}
 use Rattle.statement.proofs.own_parts.Statement.{statement}
 use Rattle.statement.proofs.own_parts.Tie as tie
 
-add-type-check-expression : tie.Need-add-type-check-expression
-add-type-check-expression c = search needs
-
-sub-type-check-expression : tie.Need-sub-type-check-expression
-sub-type-check-expression c = search needs
-
-type-check-expression-requires : tie.Need-type-check-expression-requires
-type-check-expression-requires c κs = (own.value-fine (c .before .before .before .before .before .before .before .before .before .before .before .pre .0 .0) (laws.own-kind (c .before .before .before .before .before .before .before .before .before .before .before .pre .0 .0) (c .before .before .before .before .before .before .before .before .before .before .before .pre .0 .1) (c .before .before .before .before .before .match .keys1)), c .before .before .before .before .before .before .before .before .before .before .before .pre .1 .0)
+expression-statement-requires : tie.Need-expression-statement-requires
+expression-statement-requires c κs = search needs
 
 variable-declaration-requires : tie.Need-variable-declaration-requires
 variable-declaration-requires c κs = search needs
@@ -25,10 +19,10 @@ compound-assignment-requires : tie.Need-compound-assignment-requires
 compound-assignment-requires c κs = search needs
 
 return-statement-requires : tie.Need-return-statement-requires
-return-statement-requires c κs = ((c .before .before .before .before .before .before .before .before .before .before .before .pre .0 .0, laws.own-kind (c .before .before .before .before .before .before .before .before .before .before .before .pre .0 .0) (c .before .before .before .before .before .before .before .before .before .before .before .pre .0 .1) (c .before .before .before .before .before .match .keys5)), c .before .before .before .before .before .before .before .before .before .before .before .pre .1)
+return-statement-requires c κs = ((c .before .before .before .before .before .before .before .before .before .before .before .before .pre .0 .0, laws.own-kind (c .before .before .before .before .before .before .before .before .before .before .before .before .pre .0 .0) (c .before .before .before .before .before .before .before .before .before .before .before .before .pre .0 .1) (c .before .before .before .before .before .match .keys5)), c .before .before .before .before .before .before .before .before .before .before .before .before .pre .1)
 
 condition-requires : tie.Need-condition-requires
-condition-requires c κs = (laws.condition-fine (c .before .before .before .before .before .before .before .before .before .before .before .pre .0 .0) (laws.conditional-kind (c .before .before .before .before .before .before .before .before .before .before .before .pre .0 .0) (c .before .before .before .before .before .before .before .before .before .before .before .pre .0 .1) (c .before .before .before .before .before .match .keys6)), c .before .before .before .before .before .before .before .before .before .before .before .pre .1 .0)
+condition-requires c κs = (laws.condition-fine (c .before .before .before .before .before .before .before .before .before .before .before .before .pre .0 .0) (laws.conditional-kind (c .before .before .before .before .before .before .before .before .before .before .before .before .pre .0 .0) (c .before .before .before .before .before .before .before .before .before .before .before .before .pre .0 .1) (c .before .before .before .before .before .match .keys6)), c .before .before .before .before .before .before .before .before .before .before .before .before .pre .1 .0)
 
 same-length : tie.Need-same-length
 same-length c = search needs
@@ -43,7 +37,7 @@ same-length-4 : tie.Need-same-length-4
 same-length-4 c = search needs
 
 returns : tie.Need-returns
-returns c = laws.whole-own (c .before .before .before .before .before .before .before .before .before .before .before .before .before .before .before .before .before .before .before .pre .0 .0) (c .before .before .before .before .before .before .before .before .before .before .before .before .before .before .before .before .before .before .before .pre .0 .1) 65 (c .before .before .before .before .before .before .before .before .before .before .before .before .before .match .keys1) (omega arith) (omega arith) (own.expression-checked (c .before .before .before .before .before .before .before .before .before .before .before .before .before .before .before .before .before .before .before .pre .0 .0) (laws.own-kind (c .before .before .before .before .before .before .before .before .before .before .before .before .before .before .before .before .before .before .before .pre .0 .0) (c .before .before .before .before .before .before .before .before .before .before .before .before .before .before .before .before .before .before .before .pre .0 .1) (c .before .before .before .before .before .before .before .before .before .before .before .before .before .match .keys1)) (c .before .before .before .before .before .before .before .type-check-expression .ensures) _)
+returns c = laws.whole-own (c .before .before .before .before .before .before .before .before .before .before .before .before .before .before .before .before .before .before .before .pre .0 .0) (c .before .before .before .before .before .before .before .before .before .before .before .before .before .before .before .before .before .before .before .pre .0 .1) 65 (c .before .before .before .before .before .before .before .before .before .before .before .before .match .keys1) (omega arith) (omega arith) (c .before .before .before .before .before .before .expression-statement .ensures _)
 
 same-length-5 : tie.Need-same-length-5
 same-length-5 c = search needs
@@ -58,7 +52,7 @@ same-length-8 : tie.Need-same-length-8
 same-length-8 c = search needs
 
 returns-2 : tie.Need-returns-2
-returns-2 c = laws.whole-own (c .before .before .before .before .before .before .before .before .before .before .before .before .before .before .before .before .before .before .before .before .pre .0 .0) (c .before .before .before .before .before .before .before .before .before .before .before .before .before .before .before .before .before .before .before .before .pre .0 .1) 66 (c .before .before .before .before .before .before .before .before .before .before .before .before .before .before .match .keys2) (omega arith) (omega arith) (c .before .before .before .before .before .before .before .before .variable-declaration .ensures _)
+returns-2 c = laws.whole-own (c .before .before .before .before .before .before .before .before .before .before .before .before .before .before .before .before .before .before .before .before .before .pre .0 .0) (c .before .before .before .before .before .before .before .before .before .before .before .before .before .before .before .before .before .before .before .before .before .pre .0 .1) 66 (c .before .before .before .before .before .before .before .before .before .before .before .before .before .before .match .keys2) (omega arith) (omega arith) (c .before .before .before .before .before .before .before .before .variable-declaration .ensures _)
 
 same-length-9 : tie.Need-same-length-9
 same-length-9 c = search needs
@@ -73,7 +67,7 @@ same-length-12 : tie.Need-same-length-12
 same-length-12 c = search needs
 
 returns-3 : tie.Need-returns-3
-returns-3 c = laws.whole-own (c .before .before .before .before .before .before .before .before .before .before .before .before .before .before .before .before .before .before .pre .0 .0) (c .before .before .before .before .before .before .before .before .before .before .before .before .before .before .before .before .before .before .pre .0 .1) 67 (c .before .before .before .before .before .before .before .before .before .before .before .before .match .keys3) (omega arith) (omega arith) (c .before .before .before .before .before .before .assignment .ensures _)
+returns-3 c = laws.whole-own (c .before .before .before .before .before .before .before .before .before .before .before .before .before .before .before .before .before .before .before .pre .0 .0) (c .before .before .before .before .before .before .before .before .before .before .before .before .before .before .before .before .before .before .before .pre .0 .1) 67 (c .before .before .before .before .before .before .before .before .before .before .before .before .match .keys3) (omega arith) (omega arith) (c .before .before .before .before .before .before .assignment .ensures _)
 
 same-length-13 : tie.Need-same-length-13
 same-length-13 c = search needs
@@ -88,7 +82,7 @@ same-length-16 : tie.Need-same-length-16
 same-length-16 c = search needs
 
 returns-4 : tie.Need-returns-4
-returns-4 c = laws.whole-own (c .before .before .before .before .before .before .before .before .before .before .before .before .before .before .before .before .before .before .pre .0 .0) (c .before .before .before .before .before .before .before .before .before .before .before .before .before .before .before .before .before .before .pre .0 .1) 68 (c .before .before .before .before .before .before .before .before .before .before .before .before .match .keys4) (omega arith) (omega arith) (c .before .before .before .before .before .before .compound-assignment .ensures _)
+returns-4 c = laws.whole-own (c .before .before .before .before .before .before .before .before .before .before .before .before .before .before .before .before .before .before .before .pre .0 .0) (c .before .before .before .before .before .before .before .before .before .before .before .before .before .before .before .before .before .before .before .pre .0 .1) 68 (c .before .before .before .before .before .before .before .before .before .before .before .before .match .keys4) (omega arith) (omega arith) (c .before .before .before .before .before .before .compound-assignment .ensures _)
 
 same-length-17 : tie.Need-same-length-17
 same-length-17 c = search needs
@@ -103,7 +97,7 @@ same-length-20 : tie.Need-same-length-20
 same-length-20 c = search needs
 
 returns-5 : tie.Need-returns-5
-returns-5 c = laws.whole-own (c .before .before .before .before .before .before .before .before .before .before .before .before .before .before .before .before .before .before .pre .0 .0) (c .before .before .before .before .before .before .before .before .before .before .before .before .before .before .before .before .before .before .pre .0 .1) 69 (c .before .before .before .before .before .before .before .before .before .before .before .before .match .keys5) (omega arith) (omega arith) (c .before .before .before .before .before .before .return-statement .ensures)
+returns-5 c = laws.whole-own (c .before .before .before .before .before .before .before .before .before .before .before .before .before .before .before .before .before .before .before .pre .0 .0) (c .before .before .before .before .before .before .before .before .before .before .before .before .before .before .before .before .before .before .before .pre .0 .1) 69 (c .before .before .before .before .before .before .before .before .before .before .before .before .match .keys5) (omega arith) (omega arith) (c .before .before .before .before .before .before .return-statement .ensures)
 
 same-length-21 : tie.Need-same-length-21
 same-length-21 c = search needs
@@ -118,18 +112,16 @@ same-length-24 : tie.Need-same-length-24
 same-length-24 c = search needs
 
 returns-6 : tie.Need-returns-6
-returns-6 c = laws.condition-own (c .before .before .before .before .before .before .before .before .before .before .before .before .before .before .before .before .before .before .pre .0 .0) (c .before .before .before .before .before .before .before .before .before .before .before .before .before .before .before .before .before .before .pre .0 .1) (c .before .before .before .before .before .before .before .before .before .before .before .before .match .keys6) (c .before .before .before .before .before .before .condition .ensures)
+returns-6 c = laws.condition-own (c .before .before .before .before .before .before .before .before .before .before .before .before .before .before .before .before .before .before .before .pre .0 .0) (c .before .before .before .before .before .before .before .before .before .before .before .before .before .before .before .before .before .before .before .pre .0 .1) (c .before .before .before .before .before .before .before .before .before .before .before .before .match .keys6) (c .before .before .before .before .before .before .condition .ensures)
 
 returns-7 : tie.Need-returns-7
-returns-7 c = let n = c .match .rest in laws.none-own (c .before .before .before .before .before .before .pre .0 .0) (c .before .before .before .before .before .before .pre .0 .1) (n .0 .0 .0 .0 .0 .1) (n .0 .0 .0 .0 .1) (n .0 .0 .0 .1) (n .0 .0 .1) (n .0 .1) (n .1) (c .before .before .before .before .before .before .pre .1 .0)
+returns-7 c = let n = c .match .rest in laws.none-own (c .before .before .before .before .before .before .before .pre .0 .0) (c .before .before .before .before .before .before .before .pre .0 .1) (n .0 .0 .0 .0 .0 .1) (n .0 .0 .0 .0 .1) (n .0 .0 .0 .1) (n .0 .0 .1) (n .0 .1) (n .1) (c .before .before .before .before .before .before .before .pre .1 .0)
 
 pub own-parts-spec : {M : Type 1} → statement M
 own-parts-spec =
     tie.close
     (tie.spec
-    add-type-check-expression
-    sub-type-check-expression
-    type-check-expression-requires
+    expression-statement-requires
     variable-declaration-requires
     assignment-requires
     compound-assignment-requires

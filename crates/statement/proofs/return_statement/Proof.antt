@@ -8,10 +8,10 @@ use Rattle.statement.proofs.return_statement.Statement.{statement}
 use Rattle.statement.proofs.return_statement.Tie as tie
 
 length-at-requires : tie.Need-length-at-requires
-length-at-requires c κs = omega (arith, bounds _ _ _ _ _ (c .before .before .before .before .before .pre .0 .0) .head, bounds _ _ _ _ _ (c .before .before .before .before .before .pre .0 .0) .stop)
+length-at-requires c κs = omega (arith, bounds _ _ _ _ _ (c .before .before .before .before .before .before .pre .0 .0) .head, bounds _ _ _ _ _ (c .before .before .before .before .before .before .pre .0 .0) .stop)
 
 return-without-value-requires : tie.Need-return-without-value-requires
-return-without-value-requires c κs = (omega (arith, bounds _ _ _ _ _ (c .before .before .before .before .before .before .before .before .before .pre .0 .0) .head, bounds _ _ _ _ _ (c .before .before .before .before .before .before .before .before .before .pre .0 .0) .stop), c .before .before .before .before .before .before .before .before .before .pre .1 .1)
+return-without-value-requires c κs = (omega (arith, bounds _ _ _ _ _ (c .before .before .before .before .before .before .before .before .before .before .pre .0 .0) .head, bounds _ _ _ _ _ (c .before .before .before .before .before .before .before .before .before .before .pre .0 .0) .stop), c .before .before .before .before .before .before .before .before .before .before .pre .1 .1)
 
 same-length : tie.Need-same-length
 same-length c = search needs
@@ -20,19 +20,19 @@ same-length-2 : tie.Need-same-length-2
 same-length-2 c = search needs
 
 returns : tie.Need-returns
-returns c = laws.return-checked (c .before .before .before .before .before .before .before .before .before .before .before .before .pre .0 .0) (c .before .before .before .before .before .before .before .before .before .before .before .before .pre .0 .1) (c .before .before .before .before .before .before .length-at .ensures) (c .before .before .before .before .before .if1 .taken) (c .before .before .before .before .before .before .before .before .before .before .before .before .pre .1 .0) (c .before .before .return-without-value .ensures)
+returns c = laws.return-checked (c .before .before .before .before .before .before .before .before .before .before .before .before .before .pre .0 .0) (c .before .before .before .before .before .before .before .before .before .before .before .before .before .pre .0 .1) (c .before .before .before .before .before .before .length-at .ensures) (c .before .before .before .before .before .if1 .taken) (c .before .before .before .before .before .before .before .before .before .before .before .before .before .pre .1 .0) (c .before .before .return-without-value .ensures)
 
-add-type-check-expression : tie.Need-add-type-check-expression
-add-type-check-expression c = search needs
+add-at : tie.Need-add-at
+add-at c = search needs
 
-sub-type-check-expression : tie.Need-sub-type-check-expression
-sub-type-check-expression c = omega (arith, bounds _ _ _ _ _ (c .before .before .before .before .before .before .before .pre .0 .0) .deep)
+sub-depth : tie.Need-sub-depth
+sub-depth c = omega (arith, bounds _ _ _ _ _ (c .before .before .before .before .before .before .before .before .before .before .pre .0 .0) .deep)
 
 type-check-expression-requires : tie.Need-type-check-expression-requires
-type-check-expression-requires c κs = (laws.returned-fine (c .before .before .before .before .before .before .before .before .before .before .before .pre .0 .0) (c .before .before .before .before .before .before .before .before .before .before .before .pre .0 .1) (c .before .before .before .before .before .length-at .ensures) (c .before .before .before .before .if1 .left), c .before .before .before .before .before .before .before .before .before .before .before .pre .1 .0)
+type-check-expression-requires c κs = (laws.returned-fine (c .before .before .before .before .before .before .before .before .before .before .before .before .before .before .pre .0 .0) (c .before .before .before .before .before .before .before .before .before .before .before .before .before .before .pre .0 .1) (c .before .before .before .before .before .before .before .length-at .ensures) (c .before .before .before .before .before .before .if1 .left), c .before .before .before .before .before .before .before .before .before .before .before .before .before .before .pre .1 .0)
 
 check-types-are-assignable-requires : tie.Need-check-types-are-assignable-requires
-check-types-are-assignable-requires c κs = (omega (arith, bounds _ _ _ _ _ (c .before .before .before .before .before .before .before .before .before .before .before .before .before .before .before .before .before .before .before .before .pre .0 .0) .head, bounds _ _ _ _ _ (c .before .before .before .before .before .before .before .before .before .before .before .before .before .before .before .before .before .before .before .before .pre .0 .0) .stop), two-types (c .before .before .before .before .before .before .before .before .type-check-expression .ensures .walked .walked .grew .good) (type-later (c .before .before .before .before .before .before .before .before .type-check-expression .ensures .walked .walked .grew) (c .before .before .before .before .before .before .before .before .before .before .before .before .before .before .before .before .before .before .before .before .pre .1 .1 .type)) (c .before .before .before .before .before .before .before .before .type-check-expression .ensures .walked .is))
+check-types-are-assignable-requires c κs = (omega (arith, bounds _ _ _ _ _ (c .before .before .before .before .before .before .before .before .before .before .before .before .before .before .before .before .before .before .before .before .before .before .before .pre .0 .0) .head, bounds _ _ _ _ _ (c .before .before .before .before .before .before .before .before .before .before .before .before .before .before .before .before .before .before .before .before .before .before .before .pre .0 .0) .stop), two-types (c .before .before .before .before .before .before .before .before .type-check-expression .ensures .walked .walked .grew .good) (type-later (c .before .before .before .before .before .before .before .before .type-check-expression .ensures .walked .walked .grew) (c .before .before .before .before .before .before .before .before .before .before .before .before .before .before .before .before .before .before .before .before .before .before .before .pre .1 .1 .type)) (c .before .before .before .before .before .before .before .before .type-check-expression .ensures .walked .is))
 
 same-length-3 : tie.Need-same-length-3
 same-length-3 c = search needs
@@ -44,7 +44,7 @@ same-length-5 : tie.Need-same-length-5
 same-length-5 c = search needs
 
 returns-2 : tie.Need-returns-2
-returns-2 c = laws.return-value-checked (c .before .before .before .before .before .before .before .before .before .before .before .before .before .before .before .before .before .before .before .before .before .before .before .pre .0 .0) (c .before .before .before .before .before .before .before .before .before .before .before .before .before .before .before .before .before .before .before .before .before .before .before .pre .0 .1) (c .before .before .before .before .before .before .before .before .before .before .before .before .before .before .before .before .before .length-at .ensures) (c .before .before .before .before .before .before .before .before .before .before .before .before .before .before .before .before .if1 .left) (c .before .before .before .before .before .before .before .before .before .before .before .type-check-expression .ensures) (c .before .before .check-types-are-assignable .ensures)
+returns-2 c = laws.return-value-checked (c .before .before .before .before .before .before .before .before .before .before .before .before .before .before .before .before .before .before .before .before .before .before .before .before .before .before .pre .0 .0) (c .before .before .before .before .before .before .before .before .before .before .before .before .before .before .before .before .before .before .before .before .before .before .before .before .before .before .pre .0 .1) (c .before .before .before .before .before .before .before .before .before .before .before .before .before .before .before .before .before .before .before .length-at .ensures) (c .before .before .before .before .before .before .before .before .before .before .before .before .before .before .before .before .before .before .if1 .left) (c .before .before .before .before .before .before .before .before .before .before .before .type-check-expression .ensures) (c .before .before .check-types-are-assignable .ensures)
 
 pub return-statement-spec : {M : Type 1} → statement M
 return-statement-spec =
@@ -55,8 +55,8 @@ return-statement-spec =
     same-length
     same-length-2
     returns
-    add-type-check-expression
-    sub-type-check-expression
+    add-at
+    sub-depth
     type-check-expression-requires
     check-types-are-assignable-requires
     same-length-3

@@ -1,6 +1,5 @@
 -- `run` meets its contract. Assumes nothing.
 use mathlib.Core.Path.{refl, _∙_}
-use native.Mathlib.Omega.{arith}
 use Rattle.type_check.proofs.Outcomes as outcomes
 use borrow.Author.Needs.{needs}
 use Rattle.type_check.proofs.run.Statement.{statement}

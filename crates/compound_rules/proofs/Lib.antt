@@ -1,0 +1,4 @@
+pub mod Elements
+pub mod Fields
+pub mod Repeats
+pub mod Tables

@@ -1,0 +1,1 @@
+// Words for contracts are definitions alone: specs/. There is no code here.

@@ -1,0 +1,25 @@
+-- `expression_rules::bitwise_not` meets its contract: a law for each exit. Assumes nothing.
+use Rattle.expression_rules.proofs.Exits as exits
+use borrow.Author.Needs.{needs}
+use Rattle.expression_rules.proofs.bitwise_not.Statement.{statement}
+use Rattle.expression_rules.proofs.bitwise_not.Tie as tie
+
+kind-requires : tie.Need-kind-requires
+kind-requires c κs = search needs
+
+is-integral-requires : tie.Need-is-integral-requires
+is-integral-requires c κs = search needs
+
+report-unless-requires : tie.Need-report-unless-requires
+report-unless-requires c κs = search needs
+
+same-length : tie.Need-same-length
+same-length c = search needs
+
+returns : tie.Need-returns
+returns c = search exits.bits-inverted
+
+pub bitwise-not-spec : {M : Type 1} → statement M
+bitwise-not-spec =
+    tie.close
+    (tie.spec kind-requires is-integral-requires report-unless-requires same-length returns)

@@ -1,0 +1,74 @@
+-- `expression_rules::integer` meets its contract: a law for each exit. Assumes nothing.
+use Rattle.expression_rules.proofs.Exits as exits
+use borrow.Author.Needs.{needs}
+use Rattle.expression_rules.proofs.integer.Statement.{statement}
+use Rattle.expression_rules.proofs.integer.Tie as tie
+
+add-word : tie.Need-add-word
+add-word c = search needs
+
+word-requires : tie.Need-word-requires
+word-requires c κs = search needs
+
+add-start : tie.Need-add-start
+add-start c = search needs
+
+length-at-requires : tie.Need-length-at-requires
+length-at-requires c κs = search needs
+
+add-stop : tie.Need-add-stop
+add-stop c = search needs
+
+sub-from-str-radix : tie.Need-sub-from-str-radix
+sub-from-str-radix c = search needs
+
+part-from-str-radix-start : tie.Need-part-from-str-radix-start
+part-from-str-radix-start c = search needs
+
+part-from-str-radix-end : tie.Need-part-from-str-radix-end
+part-from-str-radix-end c = search needs
+
+from-str-radix-requires : tie.Need-from-str-radix-requires
+from-str-radix-requires c κs = search needs
+
+enum-told : tie.Need-enum-told
+enum-told c = search needs
+
+enum-told-2 : tie.Need-enum-told-2
+enum-told-2 c = search needs
+
+error-at-requires : tie.Need-error-at-requires
+error-at-requires c κs = search needs
+
+report-requires : tie.Need-report-requires
+report-requires c κs = search needs
+
+returns : tie.Need-returns
+returns c = search exits.literal-read
+
+same-length : tie.Need-same-length
+same-length c = search needs
+
+returns-2 : tie.Need-returns-2
+returns-2 c = search exits.literal-invalid
+
+pub integer-spec : {M : Type 1} → statement M
+integer-spec =
+    tie.close
+    (tie.spec
+    add-word
+    word-requires
+    add-start
+    length-at-requires
+    add-stop
+    sub-from-str-radix
+    part-from-str-radix-start
+    part-from-str-radix-end
+    from-str-radix-requires
+    enum-told
+    enum-told-2
+    error-at-requires
+    report-requires
+    returns
+    same-length
+    returns-2)

@@ -1,4 +1,0 @@
-pub mod Effect
-pub mod Words
-pub mod Represents
-pub mod Post

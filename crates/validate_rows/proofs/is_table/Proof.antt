@@ -1,0 +1,84 @@
+-- `validate_rows::is_table` meets its contract. The loop: the rows that were passed obey the rules. The measure is the rows left.
+use Rattle.validate_rows.proofs.Tested as laws
+use Rattle.types.proofs.Rows as table-rows
+use borrow.Author.Needs.{needs}
+use Prim.Native.Nat.{_≤_, _-_}
+use Rattle.validate_rows.proofs.is_table.Statement.{statement}
+use Rattle.validate_rows.proofs.is_table.Tie as tie
+
+abbrev Inv-loop : tie.InvT-loop
+Inv-loop rows count m₀ m = (m ≤ count) × table-rows.Rows rows m
+
+abbrev μ-loop : tie.MeasureT-loop
+μ-loop rows count m₀ m = count - m
+
+returns : tie.Need-returns Inv-loop μ-loop
+returns c = search laws.rows-few
+
+mul-if2 : tie.Need-mul-if2 Inv-loop μ-loop
+mul-if2 c = search needs
+
+returns-2 : tie.Need-returns-2 Inv-loop μ-loop
+returns-2 c = search laws.rows-past
+
+has-fixed-rows-requires : tie.Need-has-fixed-rows-requires Inv-loop μ-loop
+has-fixed-rows-requires c κs = search needs
+
+returns-3 : tie.Need-returns-3 Inv-loop μ-loop
+returns-3 c = search laws.fixed-wrong
+
+loop-holds : tie.Need-loop-holds Inv-loop μ-loop
+loop-holds c = (search needs, search table-rows.rows-none)
+
+add-row-at : tie.Need-add-row-at Inv-loop μ-loop
+add-row-at c = search needs
+
+row-at-requires : tie.Need-row-at-requires Inv-loop μ-loop
+row-at-requires c κs = search needs
+
+is-row-requires : tie.Need-is-row-requires Inv-loop μ-loop
+is-row-requires c κs = search needs
+
+returns-4 : tie.Need-returns-4 Inv-loop μ-loop
+returns-4 c = search laws.row-wrong
+
+find-requires : tie.Need-find-requires Inv-loop μ-loop
+find-requires c κs = search needs
+
+returns-5 : tie.Need-returns-5 Inv-loop μ-loop
+returns-5 c = search laws.row-twice
+
+add-m : tie.Need-add-m Inv-loop μ-loop
+add-m c = search needs
+
+loop-less : tie.Need-loop-less Inv-loop μ-loop
+loop-less c = search needs
+
+loop-again : tie.Need-loop-again Inv-loop μ-loop
+loop-again c = (search needs, search laws.rows-more)
+
+returns-6 : tie.Need-returns-6 Inv-loop μ-loop
+returns-6 c = search laws.rows-all
+
+pub is-table-spec : {M : Type 1} → statement M
+is-table-spec =
+    tie.close
+    (tie.spec
+    Inv-loop
+    μ-loop
+    returns
+    mul-if2
+    returns-2
+    has-fixed-rows-requires
+    returns-3
+    loop-holds
+    add-row-at
+    row-at-requires
+    is-row-requires
+    returns-4
+    find-requires
+    returns-5
+    add-m
+    loop-less
+    loop-again
+    returns-6)

@@ -1,0 +1,5 @@
+pub mod Effect
+pub mod Words
+pub mod Represents
+pub mod Post
+pub mod Moments
