@@ -2,10 +2,15 @@
 # Builds the static library and the examples in C and Rust over it, and holds what they print of a module file, and of the file cut short,
 # to what is expected. Then the Rust crate's tests. Exits nonzero on a difference. Needs rt, cc and cargo on x86-64 Linux.
 set -eu
+for needed in rt cc cargo; do
+    command -v "$needed" >/dev/null || { echo "callers: $needed is needed and is not on the PATH" >&2; exit 2; }
+done
 cd "$(dirname "$0")/.."
 out=target/callers
 mkdir -p "$out"
+unset DELTA_NULL_LIB # the library made here is the one that is linked
 
+echo "callers: exports is proved first, which takes some minutes from nothing ($out/staticlib.log)" >&2
 rt staticlib exports >"$out/staticlib.log" 2>&1 || { tail -5 "$out/staticlib.log"; exit 1; }
 cc -std=c11 -Wall -Wextra -Wpedantic -Werror -O2 -Iinclude callers/c/check_file.c target/staticlib/libexports.a -o "$out/check_file_c"
 cargo() { command cargo "$@" --quiet --offline --manifest-path callers/rust/Cargo.toml --target-dir "$out/rust"; }

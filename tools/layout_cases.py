@@ -1,7 +1,6 @@
 #!/usr/bin/env python3
 """Makes the cases of crates/layout_cases: `stdin`, the modules and the edits, and `stdout`, what the oracle says of each.
 
-Usage, from the repository's root:  python3 tools/layout_cases.py ORACLE
 ORACLE is the program built from oracle/ (oracle/README.md). Its layout tests are written from document 01, apart from the Rattle code.
 
 stdin is a list of commands, each judged by itself; numbers have four bytes, least byte first:
@@ -10,67 +9,60 @@ stdin is a list of commands, each judged by itself; numbers have four bytes, lea
   B p v        the base with the byte at p set to v (one byte)
   P n          the base lengthened by n zero bytes, which stay
 """
-import os, struct, subprocess, sys, tempfile
+import argparse, os, subprocess, tempfile
 
-oracle = sys.argv[1]
-root = os.path.join(os.path.dirname(os.path.abspath(__file__)), '..')
-out = os.path.join(root, 'crates', 'layout_cases')
+from module_file import module, record, word
 
-
-def record(kind, body=b'', place=(0, 1, 1)):
-    return struct.pack('<IHHII', 16 + len(body), kind, *place) + body
-
-
-def word(*numbers):
-    return struct.pack('<%dI' % len(numbers), *numbers)
-
-
-def module(names, items):
-    return record(1, record(2, b''.join(record(3, n) for n in names)) + b''.join(items))
+parser = argparse.ArgumentParser(description=__doc__, formatter_class=argparse.RawDescriptionHelpFormatter)
+parser.add_argument('oracle', metavar='ORACLE')
+oracle = parser.parse_args().oracle
+if not os.access(oracle, os.X_OK):
+    parser.error('ORACLE names no program: ' + oracle)
+out = os.path.join(os.path.dirname(os.path.abspath(__file__)), '..', 'crates', 'layout_cases')
 
 
 def name_type(n):
-    return record(16, word(0, n))
+    return record(16, 0, n)
 
 
 def block_at(depth, statement):
     """A function whose body is a chain of blocks with a statement at this depth; the module is at 1."""
     for _ in range(depth - 3):
-        statement = record(64, word(0) + statement)
-    return module([b'x'], [record(80, word(0) + record(17, word(0)) + statement)])
+        statement = record(64, 0, statement)
+    return module([b'x'], [record(80, 0, record(17, 0), statement)])
 
 
 def nested(depth):
     """A variable whose type record, a chain of pointers, ends at this depth; the module is at 1."""
     t = name_type(0)
     for _ in range(depth - 3):
-        t = record(18, word(0) + t)
-    return module([b'x'], [record(83, word(0) + t)])
+        t = record(18, 0, t)
+    return module([b'x'], [record(83, 0, t)])
 
 
 # one module with every kind of record
 u16 = name_type(0)
-e = record(34, word(0, 1))
-one = record(33, word(0, 10) + b'1')
-x = record(32, word(0, 1))
+e = record(34, 0, 1)
+one = record(33, 0, 10, b'1')
+x = record(32, 0, 1)
 expressions = [
-    x, one, e, record(35, word(0) + b'hi'), record(36, word(0) + x + one + e), record(37, word(0) + x + one), record(38, word(0) + one + u16),
-    record(39, word(0) + x), record(40, word(0) + x), record(41, word(0, 1) + x), record(42, word(0) + one), record(43, word(0) + e),
-    record(44, word(0) + e + e), record(45, word(0, 8) + one + one), record(46, word(0, 5) + one + one), record(47, word(0) + record(17, word(0))),
+    x, one, e, record(35, 0, b'hi'), record(36, 0, x, one, e), record(37, 0, x, one), record(38, 0, one, u16),
+    record(39, 0, x), record(40, 0, x), record(41, 0, 1, x), record(42, 0, one), record(43, 0, e),
+    record(44, 0, e, e), record(45, 0, 8, one, one), record(46, 0, 5, one, one), record(47, 0, record(17, 0)),
 ]
-array = record(48, one + one)
-struct_ = record(49, record(50, word(1) + one))
+array = record(48, one, one)
+struct_ = record(49, record(50, 1, one))
 statements = [record(65, s) for s in expressions] + [
-    record(66, word(1) + u16), record(66, word(1) + u16 + one), record(66, word(1) + u16 + array), record(67, x + one), record(68, x + struct_), record(69),
-    record(69, one), record(70, record(64, word(0))), record(71, e + record(72)), record(73, e + record(72)), record(73, e + record(72) + record(64, word(1))),
+    record(66, 1, u16), record(66, 1, u16, one), record(66, 1, u16, array), record(67, x, one), record(68, x, struct_), record(69),
+    record(69, one), record(70, record(64, 0)), record(71, e, record(72)), record(73, e, record(72)), record(73, e, record(72), record(64, 1)),
     record(74, b'nop'),
 ]
-fields = record(20, word(0) + record(21, word(1) + record(18, word(0) + u16)) + record(21, word(0) + record(19, word(0, 4) + u16)))
+fields = record(20, 0, record(21, 1, record(18, 0, u16)), record(21, 0, record(19, 0, 4, u16)))
 every = module([b'u16', b'x', b''], [
-    record(82, b'std'), record(84, b''), record(81, word(1, 3) + fields), record(83, word(1) + u16 + struct_),
-    record(80, word(1) + u16), record(80, word(2) + u16 + record(85, word(0) + u16) + record(85, word(1) + u16) + record(64, word(1) + b''.join(statements))),
+    record(82, b'std'), record(84, b''), record(81, 1, 3, fields), record(83, 1, u16, struct_),
+    record(80, 1, u16), record(80, 2, u16, record(85, 0, u16), record(85, 1, u16), record(64, 1, *statements)),
 ])
-small = module([b'x', b'u17'], [record(83, word(0) + name_type(1))])
+small = module([b'x', b'u17'], [record(83, 0, name_type(1))])
 
 cases, commands = [], []
 
@@ -108,7 +100,7 @@ for names in ([], [b'a', b'b', b'a'], [b'', b'x', b''], [b'ab', b'a', b'b', b'ab
     base(module(names, []))
 for kind in range(100):
     base(module([b'x'], [record(kind)]))
-    base(module([b'x'], [record(80, word(0) + record(17, word(0)) + record(kind, word(0)))]))
+    base(module([b'x'], [record(80, 0, record(17, 0), record(kind, 0))]))
 for extra in range(1, 20):
     base(module([b'x'], []) + bytes(extra))
     base(module([b'x'], [record(72) + bytes(extra)]))
@@ -133,7 +125,7 @@ with tempfile.TemporaryDirectory() as folder:
         files.append(os.path.join(folder, '%05d' % i))
         with open(files[-1], 'wb') as f:
             f.write(data)
-    said = subprocess.run([oracle, 'check', '--model', folder], capture_output=True, text=True, check=True).stdout
+    said = subprocess.run([oracle, 'check', '--model', folder], stdout=subprocess.PIPE, text=True, check=True).stdout
 answers = {}
 for line in said.splitlines():
     if line.startswith('file '):

@@ -1,11 +1,11 @@
 #!/bin/sh
-# Makes the data of the program `replay` from the oracle: tools/replay.sh [REFERENCE]
-# REFERENCE is the folder of the Rust source. Writes crates/replay/stdin (the cases), stdout (what the program has to print) and
+# Makes the data of the program `replay` from the oracle:  DELTA_NULL_SRC=FOLDER tools/replay.sh
+# FOLDER has the source of the Rust reference (common.sh). Writes crates/replay/stdin (the cases), stdout (what the program has to print) and
 # cases.txt (a name for each case, in order).
 set -e
-cd "$(dirname "$0")/.."
-DELTA_NULL_SRC=$(realpath "${1:-../shared/docs/src}")
-export DELTA_NULL_SRC
-(cd oracle && cargo build --release --offline)
-oracle/target/release/oracle replay 2000 1500 crates/replay/stdin crates/replay/cases.txt >crates/replay/stdout
-cat crates/replay/stdout
+. "$(dirname "$0")/common.sh"
+need_reference
+cd "$(dirname "$0")/../oracle"
+cargo build --release --offline
+target/release/oracle replay 2000 1500 ../crates/replay/stdin ../crates/replay/cases.txt >../crates/replay/stdout
+cat ../crates/replay/stdout

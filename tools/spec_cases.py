@@ -1,21 +1,77 @@
 #!/usr/bin/env python3
 """Tests the specification itself: what the definitions of specs/ compute for a module is held to the oracle's answer.
 
-Usage, from the repository's root:  python3 tools/spec_cases.py ORACLE FOLDER MODULES..
-ORACLE is the program built from oracle/ (oracle/README.md). FOLDER gets a copy of the crates that `meaning` needs and a crate
-`cases` whose theorems, four for each module, are closed by computation: the refusal of tests 1 to 4 or none; the counts; every error in
-order; the type of every slot in byte order. `rt check` there says whether they hold. It is no part of the gate.
+ORACLE is the program built from oracle/ (oracle/README.md). FOLDER, new or of an earlier call, gets a copy of the crates that `meaning`
+needs and a crate `cases` whose theorems, four for each module, are closed by computation: the refusal of tests 1 to 4 or none; the counts;
+every error in order; the type of every slot in byte order. `rt check` there says whether they hold. It is no part of the gate.
 """
-import os, re, shutil, subprocess, sys
+import argparse, os, re, shutil, subprocess
 
-oracle, folder, modules = sys.argv[1], sys.argv[2], sys.argv[3:]
-root = os.path.join(os.path.dirname(os.path.abspath(__file__)), '..')
-below = ['fallible', 'literal', 'rows', 'lookup', 'types', 'validate', 'relations', 'shape', 'node', 'meaning']
+ROOT = os.path.join(os.path.dirname(os.path.abspath(__file__)), '..')
 PER_FILE = 20
+# files of specs/ whose definitions no theorem here has to open
+CLOSED = ('Lib.antt', 'BenchSheet.antt', 'JoiningOrder.antt', 'Inner.antt', 'Entry.antt')
+HEAD = '''use Prim.Native.Nat.{ℕ}
+use mathlib.Core.Path.{_≡_, refl}
+use mathlib.Core.List.{List, [], _∷_, map}
+use mathlib.Core.Option.{Option, none, some}
+use Rattle.types.specs.Ty.{Ty, end, node}
+use Rattle.node.specs.Layout.{layoutOf, layoutRefusal}
+use Rattle.node.specs.Names.{repeatedName, nameRefusal, itemsOf}
+use Rattle.node.specs.Record.{itemTree}
+use Rattle.meaning.specs.TypeError.{TypeError, Operand, plain, row}
+use Rattle.meaning.specs.Context.{each}
+use Rattle.meaning.specs.Module.{itemTypes}
+use Rattle.meaning.specs.Promise.{errorsOf, Counts, countsOf, contextOf}
+use Rattle.cases.proofs.Open.{opened}
+
+abbrev told : (kind file line column : ℕ) → (first second third : Operand) → TypeError
+told k f l c x y z = record { kind = k; file = f; line = l; column = c; first = x; second = y; third = z }
+
+abbrev slotsOf : List ℕ → List Ty
+slotsOf m = each (λ b. itemTypes (contextOf m) (itemTree b)) (itemsOf m)
+'''
 
 
-def numbers(data):
-    return ' ∷ '.join(str(b) for b in data) + ' ∷ []' if data else '[]'
+def read(*path):
+    with open(os.path.join(*path)) as f:
+        return f.read()
+
+
+def write(text, *path):
+    with open(os.path.join(*path), 'w') as f:
+        f.write(text)
+
+
+def needed(crate):
+    """The lines of crates.txt, in their order, of a crate and of all that it needs."""
+    lines = [line for line in read(ROOT, 'crates.txt').splitlines(True) if re.match(r'\w+:', line)]
+    wanted = {crate}
+    for line in reversed(lines):
+        name, needs = line.split(':')
+        if name in wanted:
+            wanted.update(needs.split())
+    return [line for line in lines if line.split(':')[0] in wanted]
+
+
+# --- the oracle's answers as terms
+
+def answers(oracle, modules):
+    """The lines that the oracle says of each module."""
+    text = subprocess.run([oracle, 'check'] + modules, stdout=subprocess.PIPE, text=True, check=True).stdout
+    if len(modules) == 1:
+        return {modules[0]: text.splitlines()}
+    said = {}
+    for line in text.splitlines():
+        if line.startswith('file '):
+            said[line[5:]] = now = []
+        else:
+            now.append(line)
+    return said
+
+
+def listed(terms):
+    return ' ∷ '.join(terms + ['[]'])
 
 
 def parse(text):
@@ -52,10 +108,6 @@ def term(t):
     return '(node %d %s %s %d %d)' % (kind, first, second, size, name)
 
 
-def operand(word):
-    return '(row %s)' % term(parse(word)) if word.startswith('(') else '(plain %s)' % word
-
-
 def words(line):
     """The words of a line; a type in parentheses is one word."""
     out, depth, now = [], 0, ''
@@ -69,102 +121,123 @@ def words(line):
     return out + [now]
 
 
-said = {}
-text = subprocess.run([oracle, 'check'] + modules, capture_output=True, text=True, check=True).stdout
-for line in text.splitlines():
-    if line.startswith('file '):
-        said[line[5:]] = now = []
+def slot(line):
+    return term(parse(' '.join(words(line)[2:])))
+
+
+def operand(word):
+    return '(row %s)' % term(parse(word)) if word.startswith('(') else '(plain %s)' % word
+
+
+def error(line):
+    said = words(line)
+    return ' '.join(['told'] + said[1:5] + [operand(word) for word in said[5:]])
+
+
+# --- the theorems
+
+def theorem(name, statement):
+    return '\n%s : %s\nunfolding opened\n%s = refl\n' % (name, statement, name)
+
+
+def refused(i, line):
+    number, place = re.match(r'refused (\d+) at (\d+)', line).groups()
+    which = 'layoutRefusal (layoutOf module-%d)' if number in '123' else 'nameRefusal (repeatedName module-%d)'
+    return theorem('refused-%d' % i, '%s ≡ some (%s, %s)' % (which % i, number, place))
+
+
+def accepted(i, said):
+    _, rows, _, errors = said[0].split()
+    told = [error(line) for line in said if line.startswith('error ')]
+    slots = [slot(line) for line in said if line.startswith('slot ')]
+    return (
+        theorem('passes-%d' % i, 'layoutRefusal (layoutOf module-%d) ≡ none' % i)
+        + theorem('counts-%d' % i, 'countsOf module-%d ≡ record { rows = %s; errors = %s }' % (i, rows, errors))
+        + theorem('errors-%d' % i, 'errorsOf module-%d ≡ %s' % (i, listed(told)))
+        + theorem('slots-%d' % i, 'slotsOf module-%d ≡ %s' % (i, listed(slots)))
+    )
+
+
+def theorems(i, data, said):
+    """The module and what has to hold of it; nothing if a type is too long to be written out."""
+    if said[0].startswith('refused'):
+        facts = refused(i, said[0])
+    elif said[0].startswith('rows') and '#' not in ''.join(said):
+        facts = accepted(i, said)
     else:
-        now.append(line)
+        return None
+    return '\nabbrev module-%d : List ℕ\nmodule-%d = %s\n' % (i, i, listed([str(byte) for byte in data])) + facts
 
-shutil.rmtree(os.path.join(folder, 'crates'), ignore_errors=True)
-os.makedirs(os.path.join(folder, 'crates', 'cases', 'src'))
-os.makedirs(os.path.join(folder, 'crates', 'cases', 'specs'))
-os.makedirs(os.path.join(folder, 'crates', 'cases', 'proofs'))
-for crate in below:
-    shutil.copytree(os.path.join(root, 'crates', crate), os.path.join(folder, 'crates', crate), ignore=shutil.ignore_patterns('must-fail'))
-lines = [l for l in open(os.path.join(root, 'crates.txt')) if l.split(':')[0] in below]
-open(os.path.join(folder, 'crates.txt'), 'w').write(''.join(lines) + 'cases: ' + ' '.join(below) + '\n')
-open(os.path.join(folder, 'crates', 'cases', 'src', 'lib.rt'), 'w').write('// The theorems are in proofs/.\n')
 
-head = '''use Prim.Native.Nat.{ℕ}
-use mathlib.Core.Path.{_≡_, refl}
-use mathlib.Core.List.{List, [], _∷_, map}
-use mathlib.Core.Option.{Option, none, some}
-use Rattle.types.specs.Ty.{Ty, end, node}
-use Rattle.node.specs.Layout.{layoutOf, layoutRefusal}
-use Rattle.node.specs.Names.{repeatedName, nameRefusal, itemsOf}
-use Rattle.node.specs.Record.{itemTree}
-use Rattle.meaning.specs.TypeError.{TypeError, plain, row}
-use Rattle.meaning.specs.Context.{each}
-use Rattle.meaning.specs.Module.{itemTypes}
-use Rattle.meaning.specs.Promise.{errorsOf, Counts, countsOf, contextOf}
-use Rattle.cases.proofs.Open.{opened}
+def all_theorems(said, modules):
+    out = []
+    for path in modules:
+        with open(path, 'rb') as f:
+            text = theorems(len(out), f.read(), said[path])
+        if text:
+            out.append(text)
+    return out
 
-abbrev told : (kind file line column : ℕ) → (first second third : Rattle.meaning.specs.TypeError.Operand) → TypeError
-told k f l c x y z = record { kind = k; file = f; line = l; column = c; first = x; second = y; third = z }
 
-abbrev slotsOf : List ℕ → List Ty
-slotsOf m = each (λ b. itemTypes (contextOf m) (itemTree b)) (itemsOf m)
-'''
-head = head.replace('Rattle.meaning.specs.TypeError.Operand)', 'Operand)').replace('TypeError.{TypeError, plain, row}', 'TypeError.{TypeError, Operand, plain, row}')
+# --- the folder
 
-# everything that unfolds, found in the specs
-opened = []
-for crate in below:
-    specs = os.path.join(root, 'crates', crate, 'specs')
-    for f in sorted(os.listdir(specs)) if os.path.isdir(specs) else []:
-        if f.endswith('.antt') and f not in ('Lib.antt', 'BenchSheet.antt', 'JoiningOrder.antt', 'Inner.antt', 'Entry.antt'):
-            names = re.findall(r'^unfoldable pub ([^\s:]+) :', open(os.path.join(specs, f)).read(), re.M)
-            if names:
-                opened.append((crate, f[:-5], names))
-lib = ['pub mod Open']
-with open(os.path.join(folder, 'crates', 'cases', 'proofs', 'Open.antt'), 'w') as out:
-    out.write('use Prim.Native.Nat.{ℕ}\n')
-    all_names, seen = [], set()
-    for crate, module, names in opened:
-        shown = []
-        for n in names:
-            if n in seen:
-                shown.append('%s as %s-%s' % (n, n, crate))
-                all_names.append('%s-%s' % (n, crate))
-            else:
-                seen.add(n)
-                shown.append(n)
-                all_names.append(n)
-        out.write('use Rattle.%s.specs.%s.{%s}\n' % (crate, module, ', '.join(shown)))
-    out.write('\n-- Opens every definition\nunfoldable pub opened : ℕ\nunfolding %s\nopened = 0\n' % ' '.join(all_names))
+def opening(crates):
+    """A definition that opens all others: every one that unfolds, found in the specs."""
+    text, names, seen = 'use Prim.Native.Nat.{ℕ}\n', [], set()
+    for crate in crates:
+        specs = os.path.join(ROOT, 'crates', crate, 'specs')
+        files = sorted(os.listdir(specs)) if os.path.isdir(specs) else []
+        for file in files:
+            if not file.endswith('.antt') or file in CLOSED:
+                continue
+            used = []
+            for name in re.findall(r'^unfoldable pub ([^\s:]+) :', read(specs, file), re.M):
+                own = '%s-%s' % (name, crate) if name in seen else name
+                used.append(name if own == name else '%s as %s' % (name, own))
+                names.append(own)
+                seen.add(name)
+            if used:
+                text += 'use Rattle.%s.specs.%s.{%s}\n' % (crate, file[:-5], ', '.join(used))
+    return text + '\n-- Opens every definition\nunfoldable pub opened : ℕ\nunfolding %s\nopened = 0\n' % ' '.join(names)
 
-count = 0
-chunk = []
-for path in modules:
-    answer = said[path]
-    data = open(path, 'rb').read()
-    name = 'module-%d' % count
-    body = '\nabbrev %s : List ℕ\n%s = %s\n' % (name, name, numbers(data))
-    if answer[0].startswith('refused'):
-        number, place = re.match(r'refused (\d+) at (\d+)', answer[0]).groups()
-        which = 'layoutRefusal (layoutOf %s)' % name if number in '123' else 'nameRefusal (repeatedName %s)' % name
-        body += '\nrefused-%d : %s ≡ some (%s, %s)\nunfolding opened\nrefused-%d = refl\n' % (count, which, number, place, count)
-    elif answer[0].startswith('rows') and '#' not in ''.join(answer):
-        _, rows, _, errors = answer[0].split()
-        slots = [term(parse(' '.join(words(l)[2:]))) for l in answer if l.startswith('slot ')]
-        told = ['told ' + ' '.join(words(l)[1:5]) + ' ' + ' '.join(operand(w) for w in words(l)[5:]) for l in answer if l.startswith('error ')]
-        body += '\npasses-%d : layoutRefusal (layoutOf %s) ≡ none\nunfolding opened\npasses-%d = refl\n' % (count, name, count)
-        body += '\ncounts-%d : countsOf %s ≡ record { rows = %s; errors = %s }\nunfolding opened\ncounts-%d = refl\n' % (count, name, rows, errors, count)
-        body += '\nerrors-%d : errorsOf %s ≡ %s\nunfolding opened\nerrors-%d = refl\n' % (count, name, ' ∷ '.join(told + ['[]']), count)
-        body += '\nslots-%d : slotsOf %s ≡ %s\nunfolding opened\nslots-%d = refl\n' % (count, name, ' ∷ '.join(slots + ['[]']), count)
-    else:
-        continue
-    chunk.append(body)
-    count += 1
-    if len(chunk) == PER_FILE:
-        lib.append('pub mod Cases%d' % (count // PER_FILE))
-        open(os.path.join(folder, 'crates', 'cases', 'proofs', 'Cases%d.antt' % (count // PER_FILE)), 'w').write(head + ''.join(chunk))
-        chunk = []
-if chunk:
-    lib.append('pub mod CasesLast')
-    open(os.path.join(folder, 'crates', 'cases', 'proofs', 'CasesLast.antt'), 'w').write(head + ''.join(chunk))
-open(os.path.join(folder, 'crates', 'cases', 'proofs', 'Lib.antt'), 'w').write('\n'.join(lib) + '\n')
-shutil.rmtree(os.path.join(folder, 'crates', 'cases', 'specs'))
-print(count, 'modules in', folder)
+
+def copy_crates(folder, lines):
+    """The crates of these lines of crates.txt, and a crate `cases` above them that is still empty."""
+    crates = [line.split(':')[0] for line in lines]
+    shutil.rmtree(os.path.join(folder, 'crates'), ignore_errors=True)
+    for part in ('src', 'proofs'):
+        os.makedirs(os.path.join(folder, 'crates', 'cases', part))
+    for crate in crates:
+        left_out = shutil.ignore_patterns('must-fail')
+        shutil.copytree(os.path.join(ROOT, 'crates', crate), os.path.join(folder, 'crates', crate), ignore=left_out)
+    write(''.join(lines) + 'cases: ' + ' '.join(crates) + '\n', folder, 'crates.txt')
+    write('// The theorems are in proofs/.\n', folder, 'crates', 'cases', 'src', 'lib.rt')
+    return crates
+
+
+def write_cases(folder, crates, texts):
+    proofs = os.path.join(folder, 'crates', 'cases', 'proofs')
+    write(opening(crates), proofs, 'Open.antt')
+    files = ['Open']
+    for at in range(0, len(texts), PER_FILE):
+        files.append('Cases%d' % (at // PER_FILE + 1))
+        write(HEAD + ''.join(texts[at:at + PER_FILE]), proofs, files[-1] + '.antt')
+    write(''.join('pub mod %s\n' % file for file in files), proofs, 'Lib.antt')
+
+
+def main():
+    parser = argparse.ArgumentParser(description=__doc__, formatter_class=argparse.RawDescriptionHelpFormatter)
+    parser.add_argument('oracle', metavar='ORACLE')
+    parser.add_argument('folder', metavar='FOLDER')
+    parser.add_argument('modules', metavar='MODULE', nargs='+')
+    args = parser.parse_args()
+    if not os.access(args.oracle, os.X_OK):
+        parser.error('ORACLE names no program: ' + args.oracle)
+    if os.path.exists(os.path.join(args.folder, 'crates')) and not os.path.exists(os.path.join(args.folder, 'crates', 'cases')):
+        parser.error('FOLDER has crates of something else, which would be removed: ' + args.folder)
+    texts = all_theorems(answers(args.oracle, args.modules), args.modules)
+    write_cases(args.folder, copy_crates(args.folder, needed('meaning')), texts)
+    print(len(texts), 'modules in', args.folder)
+
+
+main()

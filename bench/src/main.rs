@@ -4,7 +4,7 @@ mod modules;
 mod walk;
 
 use std::{
-    env,
+    env, fs,
     hint::black_box,
     path::Path,
     process::ExitCode,
@@ -160,16 +160,29 @@ fn run(product: &Path, only: &str) -> Result<(), String> {
     Ok(())
 }
 
+/// Writes the modules for `pair.c`, one to a file, the files of a class next to each other.
+fn write(folder: &Path) -> Result<(), String> {
+    for (number, class) in modules::classes().into_iter().enumerate() {
+        let name = class.name.replace(' ', "_").replace(',', "");
+        for (place, bytes) in class.modules.iter().enumerate() {
+            let file = folder.join(format!("{number:03}-{name}-{place:03}"));
+            fs::write(&file, bytes).map_err(|error| format!("{}: {error}", file.display()))?;
+        }
+    }
+    Ok(())
+}
+
 fn main() -> ExitCode {
     let Some(product) = env::args().nth(1) else {
         eprintln!(
-            "usage: bench PRODUCT [CLASS]\nOnly classes whose names begin so; PRODUCT is `linked` or a program that answers as oracle/src/product.rs says"
+            "usage: bench PRODUCT [CLASS] | bench write FOLDER\nOnly classes whose names begin so; PRODUCT is `linked` or a program that answers as oracle/src/product.rs says"
         );
         return ExitCode::from(2);
     };
-    let only = env::args().nth(2).unwrap_or_default();
+    let second = env::args().nth(2).unwrap_or_default();
+    let work = move || if product == "write" { write(Path::new(&second)) } else { run(Path::new(&product), &second) };
     // The reference recurses over types; its stack is as large as in the oracle.
-    let worker = thread::Builder::new().stack_size(1 << 30).spawn(move || run(Path::new(&product), &only));
+    let worker = thread::Builder::new().stack_size(1 << 30).spawn(work);
     match worker.expect("a thread").join().expect("no panic") {
         Ok(()) => ExitCode::SUCCESS,
         Err(message) => {

@@ -173,11 +173,12 @@ fn sizes(count: usize) -> Vec<u8> {
 /// Names that the product's hash of names does not tell apart (crates/node/src/names.rt).
 fn one_hash(count: usize) -> Vec<u8> {
     let hash = |name: &str| name.bytes().fold(0, |h: u64, byte| (h + u64::from(byte)) * 668_265_263 % (1 << 32)) >> 22;
-    let names: Vec<String> = (0..).map(|i: u32| format!("n{i:07}")).filter(|name| hash(name) == 0).take(count).collect();
+    let names: Vec<String> =
+        (0..).map(|i: u32| format!("n{i:07}")).filter(|name| hash(name) == 0).take(count).collect();
     Tree::module(&names, vec![]).to_bytes()
 }
 
-/// Parameters of arrays whose rows the product's hash of rows does not tell apart (crates/lookup/src/lib.rt).
+/// Parameters of arrays whose rows the product's hash of rows does not tell apart (crates/row_index/src/lib.rt).
 fn one_bucket(count: usize) -> Vec<u8> {
     let bucket = |size: &u32| (u64::from(*size) * 228_826_127 + 7 * 268_435_399 + 2 * 165_580_141) / 262_144 % 512;
     let mut sizes = (0..).filter(|size| bucket(size) == 0);

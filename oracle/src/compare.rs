@@ -153,6 +153,7 @@ struct Compare<'a> {
     folder: &'a Path,
     stats: Stats,
     modules: usize,
+    by_hand: usize,
     refused: [usize; 8],
     silent: [usize; 3],
     orders: usize,
@@ -239,7 +240,9 @@ impl Compare<'_> {
 
     fn text(&self) -> String {
         let [accepted, refused @ ..] = self.refused;
-        let mut text = format!("modules {}, of them in two orders {}\n", self.modules, 2 * self.orders);
+        let from_seed = self.modules - self.by_hand;
+        let mut text = format!("modules by hand {}, from the seed {from_seed}", self.by_hand);
+        let _ = writeln!(text, ", of these in two orders {}", 2 * self.orders);
         let numbers: Vec<String> = refused.iter().enumerate().map(|(i, count)| format!("{}: {count}", i + 1)).collect();
         let _ = writeln!(text, "accepted {accepted}, refused {}", numbers.join(", "));
         let [undecodable, large, late] = self.silent;
@@ -280,13 +283,14 @@ fn some_damaged(seed: u64) -> Vec<u8> {
     copy
 }
 
-/// Compares on the modules by hand and on modules from a seed, at least so many; how many differences there are, and a text of what was met.
+/// Compares on the modules by hand and on `count` from a seed; how many differences there are, and a text of what was met.
 pub fn compare(seed: u64, count: usize, program: &Path, folder: &Path) -> Result<(usize, String), String> {
     let mut compare = Compare {
         product: Product::start(program)?,
         folder,
         stats: Stats::default(),
         modules: 0,
+        by_hand: 0,
         refused: [0; 8],
         silent: [0; 3],
         orders: 0,
@@ -295,15 +299,16 @@ pub fn compare(seed: u64, count: usize, program: &Path, folder: &Path) -> Result
     for case in hand::cases() {
         compare.one(&case.bytes, &case.name, Lending::Fixed(case.loans));
     }
+    compare.by_hand = compare.modules;
+    let all = count.saturating_add(compare.by_hand);
     let mut i = 0;
-    while compare.modules < count {
+    while compare.modules < all {
         let seed = seed.wrapping_mul(1_000_003).wrapping_add(i);
         match i % 10 {
-            0..=3 => {
-                drop(compare.one(&generate::module("mixed", seed), &format!("module {seed}"), Lending::Drawn(seed)))
-            }
             4..=7 => drop(compare.one(&some_damaged(seed), &format!("damaged {seed}"), Lending::Drawn(seed))),
-            _ => compare.two_orders(seed),
+            // Two modules, so not for the last one.
+            8..=9 if all - compare.modules > 1 => compare.two_orders(seed),
+            _ => drop(compare.one(&generate::module("mixed", seed), &format!("module {seed}"), Lending::Drawn(seed))),
         }
         i += 1;
         if i.is_multiple_of(10_000) {

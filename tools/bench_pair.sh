@@ -1,0 +1,36 @@
+#!/bin/sh
+# Measures the product against an earlier one:  DELTA_NULL_SRC=FOLDER tools/bench_pair.sh OLD.a
+# OLD.a is the earlier static library (`rt staticlib exports` in a clone of that commit), FOLDER has the source of the Rust reference,
+# which draws up the modules. Where the code lies in memory moves a class by some parts of a hundred, so each library is linked in four
+# places; for each class the mean of the 16 ratios, new over old, the least and the greatest are written.
+set -e
+. "$(dirname "$0")/common.sh"
+[ -f "$1" ] || stop "usage: DELTA_NULL_SRC=FOLDER tools/bench_pair.sh OLD.a"
+old=$(realpath "$1")
+need cc
+need_reference
+need_product
+[ "$product" = linked ] || stop "PRODUCT cannot be measured in pairs: it is no library"
+cd "$(dirname "$0")/../bench"
+cargo build --release --offline
+pairs=target/pairs
+rm -rf $pairs
+mkdir -p $pairs/modules
+target/release/bench write $pairs/modules
+cc -O2 -o $pairs/pair pair.c -ldl
+for skip in 0 16 32 48; do
+    printf '.section .note.GNU-stack\n.text\n.skip %d, 0x90\n' $skip | cc -c -x assembler -o $pairs/skip.o -
+    for side in old new; do
+        [ $side = old ] && library=$old || library=$DELTA_NULL_LIB
+        cc -shared -o $pairs/$side$skip.so $pairs/skip.o -Wl,--whole-archive "$library" -Wl,--no-whole-archive
+    done
+done
+for a in 0 16 32 48; do
+    for b in 0 16 32 48; do
+        $pairs/pair $pairs/old$a.so $pairs/new$b.so $pairs/modules
+    done
+done | awk '
+    { gsub(/^[0-9]+-|-$/, "", $1) }
+    !($1 in count) { order[++classes] = $1; least[$1] = $2; greatest[$1] = $2 }
+    { count[$1]++; sum[$1] += log($2); if ($2 < least[$1]) least[$1] = $2; if ($2 > greatest[$1]) greatest[$1] = $2 }
+    END { for (i = 1; i <= classes; i++) { c = order[i]; printf "%s mean %.3f, from %.2f to %.2f\n", c, exp(sum[c] / count[c]), least[c], greatest[c] } }'
