@@ -24,8 +24,8 @@
 extern "C" {
 #endif
 
-/* Why a call is refused, in the order of the tests: the first that holds is answered. 1 to 7 are of the module, 5 and 8 of the
- * three questions about rows. */
+/* Why a call is refused. The first test that holds is answered: for a module 1 to 7 in their order, for the three questions about
+ * rows 8 and then, of word_size alone, 5. */
 enum delta_null_refusal {
     DELTA_NULL_ACCEPTED = 0,
     DELTA_NULL_TOO_LONG = 1,        /* the module has over 65,536 bytes */
@@ -83,7 +83,7 @@ uint32_t delta_null_castable(
  *
  * Accepted: working word i, for i below count, holds the size of row i + 1 in the same form (of a field cell, that of its type and
  * of the cells that follow together; of an argument cell 0, or 65,537 if there is Unknown inside); the others are as they were.
- * Refused with 5, else with 8: the working words are as they were, and *size is 0. */
+ * Refused with 8, else with 5: the working words are as they were, and *size is 0. */
 uint32_t delta_null_word_size(
     const uint32_t *rows, size_t rows_length,
     uint32_t count, uint32_t n,

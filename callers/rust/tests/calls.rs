@@ -131,5 +131,7 @@ fn sizes() {
     let mut work = [9; COUNT as usize];
     assert_eq!(word_size(&rows, COUNT, 0, &mut work), refused(8, 0));
     assert_eq!(word_size(&rows, COUNT, 4, &mut work[1..]), refused(5, 0));
+    // 8 is tested before 5.
+    assert_eq!(word_size(&rows, COUNT, 0, &mut work[1..]), refused(8, 0));
     assert_eq!(work, [9; COUNT as usize]);
 }

@@ -24,8 +24,9 @@ use Rattle.walk.specs.declared.State.{State}
 use Rattle.walk.specs.Represents.{lent, SpellsOperand, Typing}
 use Rattle.walk.specs.Post.{Reported}
 use Rattle.convert.specs.Post.{errorFor}
-use Rattle.expression_rules.specs.Rules.{ReportedUnless, CheckAssignable}
+use Rattle.expression_rules.specs.Rules.{ReportedUnless, CheckAssignable, Checks, Two}
 use Rattle.expression_rules.proofs.Laws.{spells-at, checks-unless, checks-room, checks-then, reported-always}
+use Rattle.expression_rules.proofs.Effects.{assignable-checks}
 use Rattle.call_rules.specs.Lists.{SlotsFilled, TargetAndCells, BothShown, CountsRecords}
 use Rattle.call_rules.proofs.Chains.{first, first-filled, next-place, first-shown, none-shown, shown-later}
 use Rattle.call_rules.proofs.Turns.{checks-at, checks-none}
@@ -57,7 +58,7 @@ module _ (s : List ℕ) (at from stop element : ℕ) (o w e₀ : List ℕ) (st�
 
     pub elements-on : place < stop → (got : ℕ) → Read (wordAt o (place + 16)) 32 got → (e₁ : List ℕ) (st₁ : State) → CheckAssignable s at element got w e st e₁ st₁ → length e₁ ≡ length e
         → (len : ℕ) → Read (wordAt s place) 32 len → Elements s at from stop element o w e₀ st₀ (place + len) e₁ st₁
-    elements-on p got eg e₁ st₁ c same len el =
+    elements-on p got eg e₁ st₁ told same len el =
         subst (λ (x : ℕ). Elements s at from stop element o w e₀ st₀ x e₁ st₁) (next-place s place stop (i .filled .listed) p len el)
         (record {
           one = subst (λ (n : ℕ). OneType w n element) (sym (c .kept)) (i .one);
@@ -66,6 +67,9 @@ module _ (s : List ℕ) (at from stop element : ℕ) (o w e₀ : List ℕ) (st�
           going = λ e′ st′ later. i .going e′ st′ (turn e′ st′ later);
         })
       where
+        c : Checks (Two element got) (λ t. checkAssignable (locationAt s at) (t .left) (t .right)) w e st e₁ st₁
+        c = assignable-checks element got s at told
+
         turn : (e′ : List ℕ) (st′ : State) → CheckElements s at (stopAt s place) stop element o w e₁ st₁ e′ st′ → CheckElements s at place stop element o w e st e′ st′
         turn e′ st′ later =
             checks-room (λ cells. checkAssignable (locationAt s at) (unfolded w element) (firstOf cells) ++ elementErrors (locationAt s at) (unfolded w element) (secondOf cells))

@@ -28,6 +28,7 @@ use Rattle.walk.proofs.Laws.{typing-later}
 use Rattle.convert.specs.Post.{errorFor}
 use Rattle.expression_rules.specs.Rules.{CheckAssignable}
 use Rattle.expression_rules.proofs.Laws.{spells-at, checks-unless, checks-room, checks-then, reported-always}
+use Rattle.expression_rules.proofs.Effects.{assignable-checks}
 use Rattle.call_rules.proofs.Chains.{first, first-filled, next-place}
 use Rattle.call_rules.proofs.Turns.{checks-at, checks-none}
 use Rattle.compound_rules.specs.Fields.{valuePlace, FilledFields, FieldsAt, ValuesShow, CheckField, fieldErrorsAgainst, CheckFields}
@@ -126,7 +127,7 @@ module _ (s : List ℕ) (place bare : ℕ) (o w e e′ : List ℕ) (st st′ : S
     field-checked c =
         checks-room (λ v. checkAssignable (locationAt s place) (unfolded w field) v)
         (λ v. fieldFits (locationAt s place) (wordAt s (place + 16)) (fieldNamed (wordAt s (place + 16)) (firstOf (unfolded w bare))) v)
-        (checks-at (λ v. record { left = unfolded w field; right = v }) (λ t. checkAssignable (locationAt s place) (t .left) (t .right)) c
+        (checks-at (λ v. record { left = unfolded w field; right = v }) (λ t. checkAssignable (locationAt s place) (t .left) (t .right)) (assignable-checks field got s place c)
         (λ work output ix v y.
         let q : place + 36 ≡ place + 20 + 16 = omega arith in
         record {

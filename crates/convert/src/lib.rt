@@ -89,7 +89,7 @@ pub fn primitive_type(names: BuiltIns, name: u32) -> u32
 }
 
 // The first of two row numbers, or the second where the first is 0.
-pub fn or_else(first: u32, second: u32) -> u32
+fn or_else(first: u32, second: u32) -> u32
     ensures { λ r. ⌜ r ≡ orElseRow first second ⌝ }
 {
     if 0 < first {

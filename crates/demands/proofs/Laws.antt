@@ -8,30 +8,24 @@ use native.Mathlib.Omega.{arith}
 use lib.Dec.{ltb}
 use lib.ListN.{length}
 use borrow.Author.Tests.{le-ltb, ltb-false}
-use Rattle.types.specs.Table.{rowWidth}
+use Rattle.types.specs.Table.{rowWidth, unfolded}
+use Rattle.types.proofs.Laws.{injective}
 use Rattle.fallible.specs.Outcome.{refused, accepted, orNext, firstRefusing, outcomeAfter}
 use Rattle.fallible.specs.Errors.{errorWidth}
 use Rattle.node.specs.Layout.{layoutOf, layoutRefusal}
 use Rattle.node.specs.Names.{namesOf, repeatedName, nameRefusal}
-use Rattle.node.specs.declared.layout.Layout.{Layout}
-use Rattle.node.specs.declared.layout.Layout.the-variants.{Good, TooLong, Fault, TooDeep}
 use Rattle.node.specs.declared.names.Repeated.{Repeated}
 use Rattle.node.specs.declared.names.Repeated.the-variants.{Nowhere, At}
+use Rattle.node.proofs.LayoutLaws.{only-good}
 use Rattle.meaning.specs.Promise.{workWidth, Counts, countsOf, Lengths, lengthsOf, refuseIf, tests, answerOf}
 use Rattle.meaning.specs.JoiningOrder.{Run, Meets}
 use Rattle.meaning.proofs.Whole.{joining-order}
-use Rattle.demands.specs.Demands.{Fits, TurnedBack, Demand1, Demand2, Demand3, Demands}
+use Rattle.demands.proofs.Others.{others}
+use Rattle.demands.specs.Demands.{Fits, TurnedBack, Demand1, Demand2, Demand3, DemandsOfOne, Demands}
 
 -- No test refuses exactly if the module fits
 never : {A : Type 0} {r : ℕ × ℕ} → _≡_ {A = Option (ℕ × ℕ)} (some r) none → A
 never e = absurd (let z : _≡_ {A = ℕ} 0 1 = cc in omega arith)
-
-no-layout : (l : Layout) → layoutRefusal l ≡ none → l ≡ Good
-unfolding layoutRefusal
-no-layout Good e = refl
-no-layout TooLong e = never e
-no-layout (Fault p) e = never e
-no-layout (TooDeep p) e = never e
 
 no-name : (r : Repeated) → nameRefusal r ≡ none → r ≡ Nowhere
 unfolding nameRefusal
@@ -88,7 +82,7 @@ module _ (input : List ℕ) (lent : Lengths) where
       let e7 : t7 ≡ none = later-none (refuseIf rows 6) t7 e6 in
       let loans : (short || narrow) ≡ false = no-if (short || narrow) 5 (first-none (refuseIf (short || narrow) 5) t6 e5) in
       record {
-        layout = no-layout (layoutOf input) (first-none a t4 e);
+        layout = only-good (layoutOf input) (first-none a t4 e);
         names = no-name (repeatedName input) (first-none b t5 e4);
         output = ltb-false (lent .output) (length input) (left-false short narrow loans);
         work = ltb-false (lent .work) (workWidth * length (namesOf input)) (right-false short narrow loans);
@@ -107,7 +101,13 @@ module _ (c : Run) (meets : Meets c) where
         whole = λ fits.
             let e : c .answer ≡ accepted (countsOf (c .input)) =
             answer-by ∙ ap (λ x. outcomeAfter x (accepted (countsOf (c .input)))) (fits-none (c .input) (lengthsOf (c .before)) fits) in
-            record { answer = e; back = meets .filled (countsOf (c .input)) e };
+            let back = meets .filled (countsOf (c .input)) e in
+            record {
+              answer = e;
+              back = back;
+              others = others (c .input) (fits .layout) (c .before) (c .after) (countsOf (c .input)) back;
+              equal = λ m n a b. (injective (c .after .rows) (countsOf (c .input) .rows) (back .table) m n a b, ap (unfolded (c .after .rows)));
+            };
         otherwise = λ not. turned (firstRefusing (tests (c .input) (lengthsOf (c .before)))) refl not;
       }
     where
@@ -131,5 +131,8 @@ module _ (c : Run) (meets : Meets c) where
 pub demand-3 : (c d : Run) → Meets c → Meets d → Demand3 c d
 demand-3 c d mc md two = joining-order c d mc md (two .lengths) (two .order) (two .first) (two .second)
 
+demands-of-one : (c : Run) → Meets c → DemandsOfOne c
+demands-of-one c mc = record { first = demand-1 c mc; second = demand-2 c mc }
+
 pub demands : (c d : Run) → Meets c → Meets d → Demands c d
-demands c d mc md = record { first = demand-1 c mc; second = demand-2 c mc; third = demand-3 c d mc md }
+demands c d mc md = record { one = demands-of-one c mc; other = demands-of-one d md; third = demand-3 c d mc md }

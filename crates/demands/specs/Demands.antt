@@ -1,15 +1,18 @@
 -- The request's three demands, each over whole runs of the entry: what a call was given, left and answered (`Run`). Types are compared unfolded.
-use Prim.Native.Nat.{ℕ, _*_, _≤_, _<_}
+use Prim.Native.Nat.{ℕ, _+_, _*_, _≤_, _<_}
 use mathlib.Core.Path.{_≡_}
+use mathlib.Core.Bool.{true}
 use mathlib.Core.List.{List}
+use mathlib.Core.Logic.{_⊎_}
 use mathlib.Core.Option.{some}
 use lib.ListN.{length}
 use denote.Ref.{RefT}
 use denote.Triple.Both.{Both}
 use Rattle.contract.specs.Moments.{old}
-use Rattle.types.specs.Table.{rowWidth}
+use Rattle.types.specs.Table.{rowWidth, unfolded}
 use Rattle.fallible.specs.Outcome.{Outcome, refused, accepted, firstRefusing}
 use Rattle.fallible.specs.Errors.{errorWidth}
+use Rattle.node.specs.Bytes.{byteAt}
 use Rattle.node.specs.Layout.{layoutOf}
 use Rattle.node.specs.Names.{namesOf, repeatedName}
 use Rattle.node.specs.Record.{itemTree, itemSlotPlaces}
@@ -17,7 +20,7 @@ use Rattle.node.specs.declared.layout.Layout.the-variants.{Good}
 use Rattle.node.specs.declared.names.Repeated.the-variants.{Nowhere}
 use Rattle.meaning.specs.Module.{itemTypes}
 use Rattle.meaning.specs.Promise.{workWidth, Counts, countsOf, Buffers, Lengths, lengthsOf, tests, wiped, Accepted}
-use Rattle.meaning.specs.Promise.{contextOf, errorsOf, errorListOf, itemCount, itemAt, outputAt, slotTypes}
+use Rattle.meaning.specs.Promise.{contextOf, errorsOf, errorListOf, itemCount, itemPlace, itemAt, outputAt, inSlot, slotTypes}
 use Rattle.meaning.specs.JoiningOrder.{Run, AnotherOrder, Supposed, SameOutcome}
 use Rattle.type_check.specs.Post.{buffersBefore, buffersAfter}
 
@@ -30,10 +33,22 @@ pub record Fits (input : List ℕ) (lent : Lengths) : Type 0 where
   pub rows : rowWidth * countsOf input .rows ≤ lent .rows
   pub errors : errorWidth * countsOf input .errors ≤ lent .errors
 
--- "is checked to its end and comes back whole, each type slot filled, with its errors and counts"
+-- A byte of the file lies in a type slot of one of its items, `at` bytes behind the item's first
+pub record SlotByte (input : List ℕ) (i : ℕ) : Type 0 where
+  pub item : ℕ
+  pub at : ℕ
+  pub among : item < itemCount input
+  pub place : i ≡ itemPlace input item + at
+  pub slot : inSlot (itemSlotPlaces (itemAt input item)) at ≡ true
+
+-- "is checked to its end and comes back whole, each type slot filled, with its errors and counts"; "no other byte of the file differs in the
+-- output"; the types are "equal exactly when the numbers are"
 pub record Whole (run : Run) : Type 0 where
   pub answer : run .answer ≡ accepted (countsOf (run .input))
   pub back : Accepted (run .input) (run .before) (run .after) (countsOf (run .input))
+  pub others : (i : ℕ) → i < length (run .input) → SlotByte (run .input) i ⊎ (byteAt (run .after .output) i ≡ byteAt (run .input) i)
+  pub equal : (m n : ℕ) → m ≤ countsOf (run .input) .rows → n ≤ countsOf (run .input) .rows
+      → (unfolded (run .after .rows) m ≡ unfolded (run .after .rows) n → m ≡ n) × (m ≡ n → unfolded (run .after .rows) m ≡ unfolded (run .after .rows) n)
 
 -- "Every other input gets the number in document 01's table and leaves each buffer as that table says"
 pub record TurnedBack (run : Run) : Type 0 where
@@ -67,7 +82,7 @@ pub record TwoOrders (c d : Run) : Type 0 where
 abbrev pub Demand3 : (c d : Run) → Type 0
 Demand3 c d = TwoOrders c d → SameOutcome c d (c .answer) (d .answer)
 
--- A run of the entry, and all three demands of two of them
+-- A run of the entry
 abbrev pub run : (input : List ℕ) → (before after : Buffers) → Outcome Counts → Run
 run input before after answer = record { input = input; before = before; after = after; answer = answer }
 
@@ -75,7 +90,13 @@ run input before after answer = record { input = input; before = before; after =
 abbrev pub runOf : (input output rows errors work : Both (RefT (List ℕ)) (RefT (List ℕ))) → Outcome Counts → Run
 runOf input output rows errors work = run (old input) (buffersBefore output rows errors work) (buffersAfter output rows errors work)
 
+-- Demands 1 and 2 of one run
+pub record DemandsOfOne (run : Run) : Type 0 where
+  pub first : Demand1 run
+  pub second : (counts : Counts) → run .answer ≡ accepted counts → Demand2 run counts
+
+-- Demands 1 and 2 of each run, demand 3 of both
 pub record Demands (c d : Run) : Type 0 where
-  pub first : Demand1 c
-  pub second : (counts : Counts) → c .answer ≡ accepted counts → Demand2 c counts
+  pub one : DemandsOfOne c
+  pub other : DemandsOfOne d
   pub third : Demand3 c d

@@ -60,7 +60,7 @@ pub fn inner_statements(s: &[u8], node: Node) -> Entered
 }
 
 // Whether a statement is a break, or holds one at any depth.
-pub fn find_break(s: &[u8], node: Node) -> bool
+fn find_break(s: &[u8], node: Node) -> bool
     requires { ⌜ FineNode (now s) node aStatement ⌝ }
     ensures { λ r. ⌜ r ≡ findBreak (statementAt (old s) (node .depth) (node .at)) ⌝ }
 {

@@ -5,75 +5,86 @@ use libc::STDIN_FILENO;
 use node::bytes::FIELD;
 use node::bytes::word;
 use program_support::loans;
-use program_support::print::print_number;
+use program_support::print::BUFFER;
+use program_support::print::flush;
 use program_support::print::print_refused;
-use program_support::print::print_text;
-use program_support::print::print_word;
-use program_support::print::print_words;
+use program_support::print::put_number;
+use program_support::print::put_text;
+use program_support::print::put_word;
+use program_support::print::put_words;
 use program_support::slots::next_record;
 use program_support::slots::slot_place;
 use rows::ROW_WIDTH;
 use type_check::Answer;
 
 // `row NUMBER KIND FIRST SECOND NAME`
-fn print_row(rows: &[u32], i: usize) {
-    if i < rows.len() / ROW_WIDTH {
-        let at = ROW_WIDTH * i;
-        print_text(b"row ");
-        print_number((i + 1) as u64);
-        print_words(&rows[at..at + ROW_WIDTH]);
-        print_text(b"\n");
+fn put_row(buffer: &mut [u8], used: usize, rows: &[u32], i: usize) -> usize {
+    if rows.len() / ROW_WIDTH <= i {
+        return used;
     }
+    let at = ROW_WIDTH * i;
+    let row = put_text(buffer, used, b"row ");
+    let number = put_number(buffer, row, (i + 1) as u64);
+    let words = put_words(buffer, number, &rows[at..at + ROW_WIDTH]);
+    put_text(buffer, words, b"\n")
 }
 
-fn print_rows(rows: &[u32], count: usize) {
+fn put_rows(buffer: &mut [u8], used: usize, rows: &[u32], count: usize) -> usize {
+    let mut held = used;
     let mut i = 0;
     while i < count {
-        print_row(rows, i);
+        held = put_row(buffer, held, rows, i);
         i += 1;
     }
+    held
 }
 
 // `slot PLACE ROW`, if the record at `at` has a slot.
-fn print_slot(output: &[u8], at: usize) {
+fn put_slot(buffer: &mut [u8], used: usize, output: &[u8], at: usize) -> usize {
     let place = slot_place(output, at);
-    if FIELD <= output.len() - place {
-        print_text(b"slot ");
-        print_number(place as u64);
-        print_text(b" ");
-        print_word(word(output, place));
-        print_text(b"\n");
+    if output.len() - place < FIELD {
+        return used;
     }
+    let slot = put_text(buffer, used, b"slot ");
+    let number = put_number(buffer, slot, place as u64);
+    let blank = put_text(buffer, number, b" ");
+    let row = put_word(buffer, blank, word(output, place));
+    put_text(buffer, row, b"\n")
 }
 
 // The slots in byte order.
-fn print_slots(output: &[u8]) {
+fn put_slots(buffer: &mut [u8], used: usize, output: &[u8]) -> usize {
+    let mut held = used;
     let mut at = 0;
     while at < output.len() {
-        print_slot(output, at);
+        held = put_slot(buffer, held, output, at);
         at = next_record(output, at);
     }
+    held
 }
 
 // `error KIND FILE LINE COLUMN A B C`
-fn print_error(errors: &[u32], i: usize) {
-    if i < errors.len() / ERROR_WIDTH {
-        let at = ERROR_WIDTH * i;
-        print_text(b"error");
-        print_words(&errors[at..at + ERROR_WIDTH]);
-        print_text(b"\n");
+fn put_error(buffer: &mut [u8], used: usize, errors: &[u32], i: usize) -> usize {
+    if errors.len() / ERROR_WIDTH <= i {
+        return used;
     }
+    let at = ERROR_WIDTH * i;
+    let error = put_text(buffer, used, b"error");
+    let words = put_words(buffer, error, &errors[at..at + ERROR_WIDTH]);
+    put_text(buffer, words, b"\n")
 }
 
-fn print_errors(errors: &[u32], count: usize) {
+fn put_errors(buffer: &mut [u8], used: usize, errors: &[u32], count: usize) -> usize {
+    let mut held = used;
     let mut i = 0;
     while i < count {
-        print_error(errors, i);
+        held = put_error(buffer, held, errors, i);
         i += 1;
     }
+    held
 }
 
-// All that is found in a module of n bytes.
+// All that is found in a module of n bytes, which is no longer than the output.
 fn print_accepted(
     n: usize,
     output: &[u8],
@@ -82,11 +93,14 @@ fn print_accepted(
     error_count: usize,
     errors: &[u32],
 ) {
-    print_rows(rows, row_count as usize);
-    if n <= output.len() {
-        print_slots(&output[0..n]);
+    if output.len() < n {
+        return;
     }
-    print_errors(errors, error_count);
+    let mut buffer = [0u8; BUFFER];
+    let rows_held = put_rows(&mut buffer, 0, rows, row_count as usize);
+    let slots_held = put_slots(&mut buffer, rows_held, &output[0..n]);
+    let held = put_errors(&mut buffer, slots_held, errors, error_count);
+    flush(&buffer, held);
 }
 
 fn main() {

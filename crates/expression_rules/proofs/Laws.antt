@@ -2,7 +2,7 @@
 use Prim.Native.Nat.{ℕ, _+_}
 use mathlib.Core.Path.{_≡_, refl, sym, ap, _∙_, subst}
 use mathlib.Core.Bool.{Bool, true, false, true≢false}
-use mathlib.Core.List.{List, _++_}
+use mathlib.Core.List.{List, [], _++_}
 use Rattle.types.specs.Ty.{Ty}
 use Rattle.types.specs.Table.{unfolded, IsType}
 use Rattle.types.proofs.Grow.{extends-type}
@@ -13,8 +13,9 @@ use Rattle.meaning.specs.TypeError.{TypeError, Operand, row, error, unused, unl
 use Rattle.walk.specs.declared.State.{State}
 use Rattle.walk.specs.Effect.{Effect, reporting}
 use Rattle.walk.specs.Represents.{Lent, lent, Good, Grew, Shows, SpellsOperand, Spells, Typing}
-use Rattle.walk.specs.Post.{Reported, Walked}
+use Rattle.walk.specs.Post.{Reported, Tells, Walked}
 use Rattle.walk.proofs.Laws.{typing-later}
+use Rattle.walk.proofs.Telling.{tells-none, tells-one}
 use Rattle.walk.proofs.Walks.{walked-none, walked-then, walked-report, walked-room}
 use Rattle.convert.specs.Post.{errorFor}
 use Rattle.expression_rules.specs.Rules.{Gives, Checks, ReportedUnless}
@@ -50,6 +51,19 @@ unless-rows {b} {st = st} {st′ = st′} r = go b refl
     go : (c : Bool) → b ≡ c → st′ .rows ≡ st .rows
     go true q = ap (λ (s : State). s .rows) (r .none q .1)
     go false q = ap (λ (s : State). s .rows) (r .one q .rest)
+
+-- It is told in words
+module _ {w e e′ : List ℕ} {st st′ : State} where
+  pub tells-unless : {b : Bool} {x : Error} {d : TypeError} (test : Bool) → b ≡ test → ReportedUnless b x e st e′ st′ → Spells w (st .rows) d x → Tells w (unless test d) e st e′ st′
+  tells-unless {b} {x} {d} true q r sp =
+      subst (λ (s : State). Tells w [] e st e′ s) (sym (r .none q .1)) (subst (λ (l : List ℕ). Tells w [] e st l st) (sym (r .none q .0)) tells-none)
+  tells-unless {b} {x} {d} false q r sp = tells-one sp (r .one q)
+
+  -- The error names one row
+  pub tells-row : (s : List ℕ) (at ty : ℕ) {t : Ty} → Shows w (st .rows) ty t → (k : ℕ) → isTypeOperand k 0 ≡ true → isTypeOperand k 1 ≡ false → isTypeOperand k 2 ≡ false
+      → (test : Bool) {b : Bool} → b ≡ test → ReportedUnless b (errorFor s at k ty 0 0) e st e′ st′ → Tells w (unless test (error k (locationAt s at) (row t) unused unused)) e st e′ st′
+  unfolding SpellsOperand
+  tells-row s at ty sh k k0 k1 k2 test q r = tells-unless test q r (spells-at s at k (k0, sh) (k1, refl) (k2, refl))
 
 module _ {X : Type 0} {Given : Lent → X → Type 0} {w e e′ : List ℕ} {st st′ : State} where
   -- An error that is reported, unless a test holds of what is given

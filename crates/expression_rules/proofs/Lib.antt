@@ -2,4 +2,4 @@ pub mod Laws
 pub mod Found
 pub mod Exits
 pub mod Meaning
-pub mod Carry
+pub mod Effects

@@ -1,12 +1,14 @@
--- What each kind of expression adds once its operands are typed, and the form in which the rules promise it.
+-- What each kind of expression adds once its operands are typed, and the forms in which rules promise it.
 use Prim.Native.Nat.{ℕ, _+_, _-_}
 use mathlib.Core.Path.{_≡_}
-use mathlib.Core.Bool.{Bool, true, false, cond}
+use mathlib.Core.Bool.{Bool, true, false, cond, not}
 use mathlib.Core.List.{List, [], _∷_, _++_}
 use lib.Dec.{eqb}
 use lib.ListN.{take, drop}
 use Rattle.shape.specs.Kinds as kinds
 use Rattle.types.specs.Ty.{Ty, is, isIntegral, pointer, bool, u16, boolKind, u16Kind, pointerKind, arrayKind}
+use Rattle.types.specs.Table.{unfolded}
+use Rattle.types.specs.declared.Row.the-variants.{Pointer}
 use Rattle.relations.specs.Relations.{isCastableTo}
 use Rattle.literal.specs.Literal.{fromStrRadix}
 use Rattle.node.specs.Bytes.{wordAt, fieldEnd, fieldsEnd}
@@ -23,8 +25,9 @@ use Rattle.meaning.specs.Expression.{fieldErrors, arithmeticType, arithmeticErr
 use Rattle.walk.specs.declared.State.{State}
 use Rattle.walk.specs.declared.Typed.{Typed}
 use Rattle.walk.specs.Effect.{Effect, reporting}
-use Rattle.walk.specs.Represents.{Lent, lent, Good, Typing, Scope}
-use Rattle.walk.specs.Post.{Reported, Walked, WalkedTo}
+use Rattle.walk.specs.Represents.{Lent, lent, Good, Shows, Typing}
+use Rattle.walk.specs.Post.{Makes, Reported, Tells, Walked, WalkedTo}
+use Rattle.expression_rules.specs.Words.{orUnknownRow, resolvedWord}
 
 -- Operators on one operand, the records 39 to 43: its type, its errors and what it meets, from the type t of the operand. `name` is a field's
 
@@ -87,7 +90,71 @@ identifierErrors ctx l name = unless (isSome (resolveIdentifier ctx name)) (unkn
 abbrev pub integerErrors : Location → (base : ℕ) → (digits : List ℕ) → List TypeError
 integerErrors l base digits = unless (isSome (fromStrRadix base digits)) (literalOutOfRange l)
 
--- The forms of a promise. No working word is changed and no slot is stored, so every part of the output may be the frame
+-- Promises in words, with or without room. No working word is changed and no slot is stored
+
+pub record ReportedUnless (holds : Bool) (error : Error) (errors : List ℕ) (state : State) (errors′ : List ℕ) (state′ : State) : Type 0 where
+  pub none : holds ≡ true → (errors′ ≡ errors) × (state′ ≡ state)
+  pub one : holds ≡ false → Reported errors state error errors′ state′
+
+-- The row given shows a type, and these errors are told
+pub record GivesRow (type : Ty) (told : List TypeError) (rows errors : List ℕ) (state : State) (errors′ : List ℕ) (r : Typed) : Type 0 where
+  pub shows : Shows rows (state .rows) (r .ty) type
+  pub tells : Tells rows told errors state errors′ (r .state)
+
+-- An identifier: the row in the working words of its name. Its error names no row, so it spells the same whatever rows are lent
+pub record Identifier (s work : List ℕ) (at : ℕ) (errors : List ℕ) (state : State) (errors′ : List ℕ) (r : Typed) : Type 0 where
+  pub row : r .ty ≡ orUnknownRow (resolvedWord work (wordAt s (fieldEnd at)))
+  pub tells : (rows : List ℕ)
+      → Tells rows (unless (not (eqb (resolvedWord work (wordAt s (fieldEnd at))) 0)) (unknownIdentifier (locationAt s at) (wordAt s (fieldEnd at))))
+      errors state errors′ (r .state)
+
+-- The digits of the literal at a place: what follows its two fields
+abbrev pub digitsAt : (s : List ℕ) → (at : ℕ) → List ℕ
+digitsAt s at = take (stopAt s at - (fieldsEnd at)) (drop (fieldsEnd at) s)
+
+-- A literal: the row of u16, even where it is out of range
+pub record Integer (s : List ℕ) (at : ℕ) (errors : List ℕ) (state : State) (errors′ : List ℕ) (r : Typed) : Type 0 where
+  pub row : r .ty ≡ u16Kind
+  pub tells : (rows : List ℕ) → Tells rows (integerErrors (locationAt s at) (wordAt s (fieldEnd at)) (digitsAt s at)) errors state errors′ (r .state)
+
+-- An operator on one operand, at the record at a place, that makes no row
+abbrev pub UnaryKept : (kind : ℕ) (s : List ℕ) (at ty : ℕ) (rows errors : List ℕ) (state : State) (errors′ : List ℕ) (r : Typed) → Type 0
+UnaryKept kind s at ty rows =
+    GivesRow (unaryType kind (wordAt s (fieldEnd at)) (unfolded rows ty)) (unaryErrors kind (locationAt s at) (wordAt s (fieldEnd at)) (unfolded rows ty)) rows
+
+-- An operator on one operand: `&e` makes the row of a pointer, if it is not there
+pub record Unary (kind : ℕ) (s : List ℕ) (at ty : ℕ) (rows index errors : List ℕ) (state : State) (rows′ index′ errors′ : List ℕ) (r : Typed) : Type 0 where
+  pub taken : kind ≡ kinds.pointerTake → Makes (Pointer ty) rows index state rows′ index′ r × (errors′ ≡ errors)
+  pub kept : (kind ≡ kinds.pointerTake → ⊥) → (rows′ ≡ rows) × (index′ ≡ index) × UnaryKept kind s at ty rows errors state errors′ r
+
+-- The types of two rows
+abbrev pub rowTypes : (rows : List ℕ) → (left right : ℕ) → Operands
+rowTypes rows left right = record { left = unfolded rows left; right = unfolded rows right }
+
+-- An operator on two operands; the right stands at `place`
+abbrev pub Binary : (kind : ℕ) (s : List ℕ) (at left place right : ℕ) (rows errors : List ℕ) (state : State) (errors′ : List ℕ) (r : Typed) → Type 0
+Binary kind s at left place right rows =
+    GivesRow (binaryType kind (rowTypes rows left right))
+    (binaryErrors kind (locationAt s at) (locationAt s place) (wordAt s (fieldEnd at)) (rowTypes rows left right)) rows
+
+-- `arithmetic_binop_result_type`
+abbrev pub Arithmetic : (s : List ℕ) (at operator left right : ℕ) (rows errors : List ℕ) (state : State) (errors′ : List ℕ) (r : Typed) → Type 0
+Arithmetic s at operator left right rows =
+    GivesRow (arithmeticType (unfolded rows left) (unfolded rows right))
+    (arithmeticErrors (locationAt s at) operator (unfolded rows left) (unfolded rows right)) rows
+
+-- A cast from the left to the right
+abbrev pub castErrors : Location → Operands → List TypeError
+castErrors l t = unless (isCastableTo (t .left) (t .right)) (invalidCast l (t .left) (t .right))
+
+abbrev pub Cast : (s : List ℕ) (at source target : ℕ) (rows errors : List ℕ) (state : State) (errors′ : List ℕ) (state′ : State) → Type 0
+Cast s at source target rows = Tells rows (castErrors (locationAt s at) (rowTypes rows source target))
+
+-- A place of the left's type and a value of the right's
+abbrev pub CheckAssignable : (s : List ℕ) (at target source : ℕ) (rows errors : List ℕ) (state : State) (errors′ : List ℕ) (state′ : State) → Type 0
+CheckAssignable s at target source rows = Tells rows (checkAssignable (locationAt s at) (unfolded rows target) (unfolded rows source))
+
+-- Promises by what is given, if there is room: the form of rules that read the types of parts back from their slots
 
 -- The row of an operand shows a type; the rows of two operands do
 abbrev pub One : (ty : ℕ) → Lent → Ty → Type 0
@@ -104,68 +171,9 @@ pub record Gives {X : Type 0} (Given : Lent → X → Type 0) (type : X → Ty) 
       → WalkedTo (Given (lent work output errors rows index state)) type effect from to
       (lent work output errors rows index state) (lent work output errors′ rows index (r .state)) (r .ty)
 
--- The same where a row may be made
-pub record GivesMade {X : Type 0} (Given : Lent → X → Type 0) (type : X → Ty) (effect : X → Effect)
-    (rows index errors : List ℕ) (state : State) (rows′ index′ errors′ : List ℕ) (r : Typed) : Type 0 where
-  pub walked : (work output : List ℕ) (from to : ℕ) → Good (lent work output errors rows index state)
-      → WalkedTo (Given (lent work output errors rows index state)) type effect from to
-      (lent work output errors rows index state) (lent work output errors′ rows′ index′ (r .state)) (r .ty)
-
 -- Whatever is given, the errors are reported; no row is made
 pub record Checks {X : Type 0} (Given : Lent → X → Type 0) (told : X → List TypeError) (rows errors : List ℕ) (state : State) (errors′ : List ℕ) (state′ : State) : Type 0 where
   pub kept : state′ .rows ≡ state .rows
   pub walked : (work output index : List ℕ) (from to : ℕ) → Good (lent work output errors rows index state)
       → Walked (Given (lent work output errors rows index state)) (λ x. reporting (told x)) from to
       (lent work output errors rows index state) (lent work output errors′ rows index state′)
-
--- What the functions promise
-
-pub record ReportedUnless (holds : Bool) (error : Error) (errors : List ℕ) (state : State) (errors′ : List ℕ) (state′ : State) : Type 0 where
-  pub none : holds ≡ true → (errors′ ≡ errors) × (state′ ≡ state)
-  pub one : holds ≡ false → Reported errors state error errors′ state′
-
--- An identifier, in whatever context the working words hold
-pub record Identifier (s work : List ℕ) (at : ℕ) (errors : List ℕ) (state : State) (errors′ : List ℕ) (r : Typed) : Type 0 where
-  pub walked : (output rows index : List ℕ) (from to : ℕ) → Good (lent work output errors rows index state)
-      → WalkedTo (Scope (lent work output errors rows index state)) (λ ctx. orUnknown (resolveIdentifier ctx (wordAt s (fieldEnd at))))
-      (λ ctx. reporting (identifierErrors ctx (locationAt s at) (wordAt s (fieldEnd at)))) from to
-      (lent work output errors rows index state) (lent work output errors′ rows index (r .state)) (r .ty)
-
--- The digits of the literal at a place: what follows its two fields
-abbrev pub digitsAt : (s : List ℕ) → (at : ℕ) → List ℕ
-digitsAt s at = take (stopAt s at - (fieldsEnd at)) (drop (fieldsEnd at) s)
-
--- A literal, with nothing given
-pub record Integer (s : List ℕ) (at : ℕ) (errors : List ℕ) (state : State) (errors′ : List ℕ) (r : Typed) : Type 0 where
-  pub walked : (work output rows index : List ℕ) (from to : ℕ) → Good (lent work output errors rows index state)
-      → WalkedTo (λ (x : Unit {0}). Unit {0}) (λ x. u16)
-      (λ x. reporting (integerErrors (locationAt s at) (wordAt s (fieldEnd at)) (digitsAt s at))) from to
-      (lent work output errors rows index state) (lent work output errors′ rows index (r .state)) (r .ty)
-
--- An operator on one operand, at the record at a place
-abbrev pub Unary : (kind : ℕ) (s : List ℕ) (at ty : ℕ) (rows index errors : List ℕ) (state : State) (rows′ index′ errors′ : List ℕ) (r : Typed) → Type 0
-Unary kind s at ty = GivesMade (One ty) (λ t. unaryType kind (wordAt s (fieldEnd at)) t) (λ t. unaryEffect kind (locationAt s at) (wordAt s (fieldEnd at)) t)
-
--- One that makes no row
-abbrev pub UnaryKept : (kind : ℕ) (s : List ℕ) (at ty : ℕ) (rows errors : List ℕ) (state : State) (errors′ : List ℕ) (r : Typed) → Type 0
-UnaryKept kind s at ty = Gives (One ty) (λ t. unaryType kind (wordAt s (fieldEnd at)) t) (λ t. unaryEffect kind (locationAt s at) (wordAt s (fieldEnd at)) t)
-
--- An operator on two operands; the right stands at `place`
-abbrev pub Binary : (kind : ℕ) (s : List ℕ) (at left place right : ℕ) (rows errors : List ℕ) (state : State) (errors′ : List ℕ) (r : Typed) → Type 0
-Binary kind s at left place right rows errors state errors′ r =
-    Gives (Two left right) (λ t. binaryType kind t) (λ t. reporting (binaryErrors kind (locationAt s at) (locationAt s place) (wordAt s (fieldEnd at)) t)) rows errors state errors′ r
-
--- `arithmetic_binop_result_type`
-abbrev pub Arithmetic : (s : List ℕ) (at operator left right : ℕ) (rows errors : List ℕ) (state : State) (errors′ : List ℕ) (r : Typed) → Type 0
-Arithmetic s at operator left right rows errors state errors′ r =
-    Gives (Two left right) (λ t. arithmeticType (t .left) (t .right)) (λ t. reporting (arithmeticErrors (locationAt s at) operator (t .left) (t .right)))
-    rows errors state errors′ r
-
--- A cast from the left to the right
-abbrev pub Cast : (s : List ℕ) (at source target : ℕ) (rows errors : List ℕ) (state : State) (errors′ : List ℕ) (state′ : State) → Type 0
-Cast s at source target =
-    Checks (Two source target) (λ t. unless (isCastableTo (t .left) (t .right)) (invalidCast (locationAt s at) (t .left) (t .right)))
-
--- A place of the left's type and a value of the right's
-abbrev pub CheckAssignable : (s : List ℕ) (at target source : ℕ) (rows errors : List ℕ) (state : State) (errors′ : List ℕ) (state′ : State) → Type 0
-CheckAssignable s at target source = Checks (Two target source) (λ t. checkAssignable (locationAt s at) (t .left) (t .right))

@@ -43,7 +43,9 @@ ghost use Rattle.node.specs.Bytes.{wordAt, headEnd, fieldEnd, fieldsEnd};
 ghost use Rattle.node.specs.Layout.{stopAt};
 ghost use Rattle.meaning.specs.Expression.{partOf, computes as computing};
 ghost use Rattle.meaning.specs.Promise.{workWidth};
+ghost use Rattle.types.specs.declared.Row.the-variants.{Pointer};
 ghost use Rattle.walk.specs.Represents.{Shows};
+ghost use Rattle.walk.specs.Post.{Makes};
 ghost use Rattle.expression_rules.specs.Words.{orUnknownRow, resolvedWord};
 ghost use Rattle.convert.specs.Post.{errorFor};
 ghost use Rattle.expression_rules.specs.Rules.{ReportedUnless, Identifier, Integer, Unary, UnaryKept, Binary};
@@ -156,19 +158,14 @@ pub fn integer(s: &[u8], at: usize, errors: &mut [u32], state: State) -> Typed
 
 // `&e`
 fn pointer_take(
-    s: &[u8],
-    at: usize,
     ty: u32,
-    errors: &[u32],
     rows: &mut [u32],
     index: &mut [u16; row_index::LENGTH],
     state: State,
 ) -> Typed
     requires { ⌜ OneType (now rows) (state .rows) ty ⌝ }
     requires { ⌜ Indexed (now rows) (state .rows) (now index) ⌝ }
-    ensures { λ r. ⌜ Unary kinds.pointerTake (old s) at ty
-        (old rows) (old index) (old errors) state
-        (final rows) (final index) (old errors) r ⌝ }
+    ensures { λ r. ⌜ Makes (Pointer ty) (old rows) (old index) state (final rows) (final index) r ⌝ }
 {
     walk::make(rows, index, state, Row::Pointer(ty))
 }
@@ -257,7 +254,7 @@ fn boolean_not(
     Typed { ty, state: next }
 }
 
-// An operator on an operand of the type row `ty`.
+// An operator on an operand of the type row `ty`. `&e` makes the row of a pointer; the others make none.
 pub fn unary(
     kind: u32,
     s: &[u8],
@@ -275,7 +272,7 @@ pub fn unary(
         (final rows) (final index) (final errors) r ⌝ }
 {
     match kind {
-        POINTER_TAKE => pointer_take(s, at, ty, errors, rows, index, state),
+        POINTER_TAKE => pointer_take(ty, rows, index, state),
         POINTER_DEREFERENCE => dereference(s, at, ty, errors, rows, state),
         FIELD_ACCESS => field_access(s, at, ty, errors, rows, state),
         BITWISE_NOT => bitwise_not(s, at, ty, errors, rows, state),

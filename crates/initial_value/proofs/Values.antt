@@ -27,6 +27,7 @@ use Rattle.walk.proofs.Walks.{walked-none, walked-as, walked-at, walked-wider}
 use Rattle.convert.specs.Convert.{visiting}
 use Rattle.convert.specs.Post.{Ready}
 use Rattle.expression_rules.specs.Rules.{Operands, CheckAssignable}
+use Rattle.expression_rules.proofs.Effects.{assignable-checks}
 use Rattle.expression.specs.Post.{CarriedAt}
 use Rattle.expression.proofs.Laws.{location-at, type-later, two-types}
 use Rattle.expression.proofs.Visits.{visit-steps}
@@ -111,7 +112,7 @@ module _ {s : List ℕ} {depth from end : ℕ} (f : FineList s depth from end In
             let p = initial-expression s depth from end f there (omega arith) in
             let v = expressionAt s depth from in
             let sides : Target → Operands = (λ x. record { left = x .type; right = expressionType (x .ctx) v }) in
-            let rule = walked-at sides (leaf .walked work o₁ ix₁ from end (h .walked .walked .grew .good)) in
+            let rule = walked-at sides (assignable-checks target r s from leaf .walked work o₁ ix₁ from end (h .walked .walked .grew .good)) in
             let here = sym (location-at s depth from (p .value)) in
             subst (λ (b : Bool). InitialCheckedAt s names depth from end b target A C) (sym q)
             (subst (λ (z : tree.InitialValue). InitialChecked s names z true from end target A C) (sym (p .is))

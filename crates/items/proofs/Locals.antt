@@ -11,6 +11,7 @@ use lib.ListN.{length, getD, set, length-set, List·getD-eq-default}
 use lib.Seq.{getD-set-same, getD-set-other}
 use borrow.Author.Tests.{eqb-true, eqb-false, ltb-true, ltb-false}
 use Rattle.types.proofs.Grow.{extends-refl}
+use Rattle.row_index.proofs.Additions.{rows-none}
 use Rattle.node.specs.Tree.{Statement}
 use Rattle.node.specs.Record.{statementAt, bodyAt}
 use Rattle.meaning.specs.Context.{Context, context, blank}
@@ -136,7 +137,7 @@ module _ {arguments locals work work′ o e w ix : List ℕ} {st : State} (c : F
 
   pub cleared-walked : {X : Type 0} {G : X → Type 0} {from to : ℕ} → Good (lent work o e w ix st) → Walked G (λ x. nothing) from to (lent work o e w ix st) (lent work′ o e w ix st)
   cleared-walked g =
-      record { grew = record { good = good-cleared g; extends = extends-refl w (st .rows); sticky = λ p. p }; frame = frame-none; does = λ x h. does-work work′ }
+      record { grew = record { good = good-cleared g; extends = extends-refl w (st .rows); linked = sym (rows-none _ w (st .rows)); sticky = λ p. p }; frame = frame-none; does = λ x h. does-work work′ }
 
   module _ (ctx : Context) (s : Scope (lent work o e w ix st) ctx) where
     -- A word that stands for no type was 0

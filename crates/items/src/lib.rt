@@ -280,7 +280,7 @@ fn type_check_variable(
 }
 
 // An item.
-pub fn type_check_item(
+fn type_check_item(
     s: &[u8],
     names: BuiltIns,
     work: &mut [u32],

@@ -1,9 +1,12 @@
 // Judges modules by tests 1 to 4, and prints a line for each: `good`, or `refused 2 at 40`. Standard input is a list
 // of commands (tools/layout_cases.py).
 use libc::STDIN_FILENO;
-use libc::STDOUT_FILENO;
 use node::layout::Layout;
 use node::names::Repeated;
+use program_support::print::BUFFER;
+use program_support::print::flush;
+use program_support::print::put_refused;
+use program_support::print::put_text;
 ghost use mathlib.Core.Path.{_≡_};
 ghost use Prim.Native.Nat.{_<_, _≤_};
 ghost use lib.ListN.{length};
@@ -11,35 +14,32 @@ ghost use lib.ListN.{length};
 // Room for a module and more.
 const ROOM: usize = 70000;
 
-fn print_refused(number: u64, place: usize) {
-    io::write_all(STDOUT_FILENO, b"refused ");
-    io::print_decimal(STDOUT_FILENO, number);
-    io::write_all(STDOUT_FILENO, b" at ");
-    io::print_decimal(STDOUT_FILENO, place as u64);
-    io::write_all(STDOUT_FILENO, b"\n");
+// What tests 1 to 4 say of a module, if they are asked.
+enum Verdict {
+    NotAsked,
+    Good,
+    Refused(u32, usize),
 }
 
-fn judge_names(s: &[u8]) {
+fn judge_names(s: &[u8]) -> Verdict {
     let repeated = node::names::repeated_name(s);
     match repeated {
-        Repeated::At(place) => print_refused(4, place),
-        Repeated::Nowhere => {
-            io::write_all(STDOUT_FILENO, b"good\n");
-        }
+        Repeated::At(place) => Verdict::Refused(4, place),
+        Repeated::Nowhere => Verdict::Good,
     }
 }
 
 // Judges the first n bytes.
-fn judge(base: &[u8], n: usize)
+fn judge(base: &[u8], n: usize) -> Verdict
     requires { ⌜ n ≤ length (now base) ⌝ }
 {
     let s = &base[..n];
     let layout = node::layout::check_layout(s);
     match layout {
         Layout::Good => judge_names(s),
-        Layout::TooLong => print_refused(1, 0),
-        Layout::Fault(place) => print_refused(2, place),
-        Layout::TooDeep(place) => print_refused(3, place),
+        Layout::TooLong => Verdict::Refused(1, 0),
+        Layout::Fault(place) => Verdict::Refused(2, place),
+        Layout::TooDeep(place) => Verdict::Refused(3, place),
     }
 }
 
@@ -68,37 +68,49 @@ fn read_byte() -> u8 {
     b[0]
 }
 
+// After a command: the length of the base, and the verdict.
+struct Step {
+    n: usize,
+    verdict: Verdict,
+}
+
 // A new base.
-fn replace(base: &mut [u8]) -> usize
+fn replace(base: &mut [u8]) -> Step
     requires { ⌜ length (now base) ≡ 70000 ⌝ }
-    ensures { λ r. ⌜ r ≤ 70000 ⌝ }
+    ensures { λ r. ⌜ r .n ≤ 70000 ⌝ }
 {
     let n = read_number();
     io::read_full(STDIN_FILENO, &mut base[..n]);
-    judge(base, n);
-    n
+    let verdict = judge(base, n);
+    Step { n, verdict }
 }
 
 // The base cut.
-fn cut(base: &[u8])
-    requires { ⌜ length (now base) ≡ 70000 ⌝ }
+fn cut(base: &[u8], n: usize) -> Step
+    requires { ⌜ (length (now base) ≡ 70000) × (n ≤ 70000) ⌝ }
+    ensures { λ r. ⌜ r .n ≤ 70000 ⌝ }
 {
-    let n = read_number();
-    judge(base, n);
+    let end = read_number();
+    let verdict = judge(base, end);
+    Step { n, verdict }
 }
 
 // The base with a byte changed.
-fn change(base: &mut [u8], n: usize)
+fn change(base: &mut [u8], n: usize) -> Step
     requires { ⌜ (length (now base) ≡ 70000) × (n ≤ 70000) ⌝ }
+    ensures { λ r. ⌜ r .n ≤ 70000 ⌝ }
 {
     let place = read_number();
     let value = read_byte();
-    if place < ROOM {
-        let old = base[place];
-        base[place] = value;
-        judge(base, n);
-        base[place] = old;
+    if ROOM <= place {
+        let verdict = Verdict::NotAsked;
+        return Step { n, verdict };
     }
+    let old = base[place];
+    base[place] = value;
+    let verdict = judge(base, n);
+    base[place] = old;
+    Step { n, verdict }
 }
 
 fn clear(bytes: &mut [u8]) {
@@ -110,49 +122,58 @@ fn clear(bytes: &mut [u8]) {
 }
 
 // The base made longer, as far as there is room.
-fn lengthen(base: &mut [u8], n: usize) -> usize
+fn lengthen(base: &mut [u8], n: usize) -> Step
     requires { ⌜ (length (now base) ≡ 70000) × (n ≤ 70000) ⌝ }
-    ensures { λ r. ⌜ r ≤ 70000 ⌝ }
+    ensures { λ r. ⌜ r .n ≤ 70000 ⌝ }
 {
     let more = read_number();
     if ROOM - n < more {
-        return n;
+        let verdict = Verdict::NotAsked;
+        return Step { n, verdict };
     }
     let end = n + more;
     clear(&mut base[n..end]);
-    judge(base, end);
-    end
+    let verdict = judge(base, end);
+    Step { n: end, verdict }
 }
 
-// One command: the length of the base after it.
-fn run(command: u8, base: &mut [u8], n: usize) -> usize
+// One command.
+fn run(command: u8, base: &mut [u8], n: usize) -> Step
     requires { ⌜ (length (now base) ≡ 70000) × (n ≤ 70000) ⌝ }
-    ensures { λ r. ⌜ r ≤ 70000 ⌝ }
+    ensures { λ r. ⌜ r .n ≤ 70000 ⌝ }
 {
     match command {
         b'M' => replace(base),
-        b'T' => {
-            cut(base);
-            n
-        }
-        b'B' => {
-            change(base, n);
-            n
-        }
+        b'T' => cut(base, n),
+        b'B' => change(base, n),
         _ => lengthen(base, n),
     }
 }
 
+fn put_verdict(buffer: &mut [u8], used: usize, verdict: Verdict) -> usize {
+    match verdict {
+        Verdict::NotAsked => used,
+        Verdict::Good => put_text(buffer, used, b"good\n"),
+        Verdict::Refused(number, place) => put_refused(buffer, used, number, place),
+    }
+}
+
 fn main() {
-    let mut base = [0u8; 70000];
+    let mut base = [0u8; ROOM];
+    let mut buffer = [0u8; BUFFER];
     let mut n: usize = 0;
+    let mut held: usize = 0;
     let mut left: u32 = 1000000;
     while 0 < left {
         let mut command = [0u8; 1];
         if io::read_full(STDIN_FILENO, &mut command) < 1 {
-            return;
+            break;
         }
-        n = run(command[0], &mut base, n);
+        let step = run(command[0], &mut base, n);
+        let verdict = step.verdict;
+        held = put_verdict(&mut buffer, held, verdict);
+        n = step.n;
         left -= 1;
     }
+    flush(&buffer, held);
 }

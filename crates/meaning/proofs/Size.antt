@@ -112,7 +112,7 @@ module _ (s : List ℕ) (good : layoutOf s ≡ Good) where
       subst (λ x. Consecutive s 32 (stopAt s 16) (chain (length s) s 32 x)) (sym names-end)
       (follow s 62 Names aName refl (length s) 32 (stopAt s 16) (omega (arith, names .room)) (names .children))
 
-  items-follow : Consecutive s (stopAt s 16) (length s) (itemPlaces s)
+  pub items-follow : Consecutive s (stopAt s 16) (length s) (itemPlaces s)
   unfolding itemPlaces dueIn
   items-follow =
       subst (λ x. Consecutive s (stopAt s 16) (length s) (chain (length s) s x (min (wordAt s 0) (length s)))) (sym names-end)

@@ -3,6 +3,7 @@ use Prim.Native.Nat.{ℕ, suc, _+_, _-_, _*_, _≤_, _<_}
 use mathlib.Core.Path.{_≡_, refl, sym, _∙_, ap}
 use mathlib.Core.Bool.{Bool, true, false, not, _&&_}
 use mathlib.Core.List.{List, [], _∷_}
+use mathlib.Core.Option.{none}
 use types.Run.{OneOf, miss}
 use denote.Enum.Declared.{tagOf}
 use lib.ListN.{length}
@@ -17,7 +18,7 @@ use Rattle.shape.specs.declared.Due.{Due}
 use Rattle.shape.proofs.ShapeLaws.{and-both}
 use Rattle.node.specs.Bytes.{halfAt, wordAt}
 use Rattle.node.specs.Names.{nameCount}
-use Rattle.node.specs.Layout.{maxBytes, maxDepth, shapeAt, startAt, stopAt, isWhole, isBad, headAt, andThen, afterHead, listStep, listAt, recordAt, layoutOf, LayoutOfList}
+use Rattle.node.specs.Layout.{maxBytes, maxDepth, shapeAt, startAt, stopAt, isWhole, isBad, headAt, andThen, afterHead, listStep, listAt, recordAt, layoutOf, layoutRefusal, layoutTests, LayoutOfList}
 use Rattle.node.specs.declared.layout.Layout.{Layout}
 use Rattle.node.proofs.layout.Layout.{the-type}
 use Rattle.node.specs.declared.layout.Layout.the-variants.{Good, TooLong, Fault, TooDeep}
@@ -217,10 +218,24 @@ module _ (n : ℕ) (s : List ℕ) (d from end : ℕ) (st₀ : Holds) (at : ℕ) 
           walk-past start stop hs nx e due₁ e₁ b₁ eb₁ p₁ le = walk-on start stop hs nx e Good (walked-at-once n s (d - 1) start stop hs due₁ e₁ b₁ eb₁ p₁) le refl
 
 module _ (s : List ℕ) where
-  pub layout-long : maxBytes < length s → TooLong ≡ layoutOf s
+  is-too-long : maxBytes < length s → TooLong ≡ layoutOf s
   unfolding layoutOf
-  layout-long p = simp (lt-ltb _ _ p)
+  is-too-long p = simp (lt-ltb _ _ p)
 
-  pub layout-walked : (n : ℕ) (r : Layout) → length s ≤ maxBytes → n ≡ nameCount s → LayoutOfList n s maxDepth 0 (length s) OneModule r → r ≡ layoutOf s
+  is-walked : (n : ℕ) (r : Layout) → length s ≤ maxBytes → n ≡ nameCount s → LayoutOfList n s maxDepth 0 (length s) OneModule r → r ≡ layoutOf s
   unfolding layoutOf
-  layout-walked n r p e w = simp (le-ltb _ _ p, ← e) (w .is (suc (length s)) (omega arith))
+  is-walked n r p e w = simp (le-ltb _ _ p, ← e) (w .is (suc (length s)) (omega arith))
+
+  pub layout-long : maxBytes < length s → layoutRefusal TooLong ≡ layoutTests s
+  layout-long p = ap layoutRefusal (is-too-long p)
+
+  pub layout-walked : (n : ℕ) (r : Layout) → length s ≤ maxBytes → n ≡ nameCount s → LayoutOfList n s maxDepth 0 (length s) OneModule r → layoutRefusal r ≡ layoutTests s
+  layout-walked n r p e w = ap layoutRefusal (is-walked n r p e w)
+
+-- only a good layout has no refusal
+pub only-good : (l : Layout) → layoutRefusal l ≡ none → l ≡ Good
+unfolding layoutRefusal
+only-good Good e = refl
+only-good TooLong e = absurd (let z : _≡_ {A = ℕ} 0 1 = cc in omega arith)
+only-good (Fault p) e = absurd (let z : _≡_ {A = ℕ} 0 1 = cc in omega arith)
+only-good (TooDeep p) e = absurd (let z : _≡_ {A = ℕ} 0 1 = cc in omega arith)

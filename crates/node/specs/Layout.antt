@@ -97,12 +97,16 @@ unfoldable pub layoutOf : List ℕ → Layout
 layoutOf s =
     answerIf (ltb maxBytes (length s)) TooLong (λ _. listAt (recordAt (nameCount s) s maxDepth) s (suc (length s)) 0 (length s) OneModule)
 
--- a refusal's number and place
+-- the number and the place of each case
 unfoldable pub layoutRefusal : Layout → Option (ℕ × ℕ)
 layoutRefusal Good = none
 layoutRefusal TooLong = some (1, 0)
 layoutRefusal (Fault p) = some (2, p)
 layoutRefusal (TooDeep p) = some (3, p)
+
+-- tests 1 to 3: the number and the place of the refusal, if there is one
+abbrev pub layoutTests : List ℕ → Option (ℕ × ℕ)
+layoutTests s = layoutRefusal (layoutOf s)
 
 -- a part of a module, which has at most 65,536 bytes
 pub record Part (s : List ℕ) (at end : ℕ) : Type 0 where

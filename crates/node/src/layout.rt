@@ -21,7 +21,8 @@ ghost use mathlib.Core.Path.{_≡_};
 ghost use Prim.Native.Nat.{_+_, _≤_};
 ghost use lib.ListN.{length};
 ghost use Rattle.contract.specs.Moments.{old};
-ghost use Rattle.node.specs.Layout.{Part, isBad, headAt, LayoutOfList, layoutOf};
+ghost use Rattle.node.specs.Layout.{Part, isBad, headAt, LayoutOfList, layoutRefusal};
+ghost use Rattle.node.specs.Layout.{layoutTests};
 
 // The most bytes of a module, and the most levels of records, the module being the first.
 pub const MAX_BYTES: usize = 65536;
@@ -132,7 +133,7 @@ fn walk_list(s: &[u8], names: u32, from: usize, end: usize, depth: usize, holds:
 
 // Refusals 1 to 3, in the order in which a walk in byte order meets them.
 pub fn check_layout(s: &[u8]) -> Layout
-    ensures { λ r. ⌜ r ≡ layoutOf (old s) ⌝ }
+    ensures { λ r. ⌜ layoutRefusal r ≡ layoutTests (old s) ⌝ }
 {
     let n = s.len();
     if MAX_BYTES < n {

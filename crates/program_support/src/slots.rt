@@ -6,17 +6,18 @@ use node::bytes::HEAD_END;
 use node::bytes::KIND;
 use node::bytes::half;
 use node::bytes::length_at;
-use shape::Holds;
 use shape::Rule;
+use shape::due_in;
 use shape::shape_of;
-ghost use Prim.Native.Nat.{_<_, _≤_};
+ghost use Prim.Native.Nat.{_<_};
 ghost use lib.ListN.{length};
 ghost use Rattle.contract.specs.Moments.{old};
+ghost use Rattle.program_support.specs.Slots.{SlotPlace, NextRecord};
 
 // Where the slot of the record at `at` is. Where it has none (only types and expressions do) that is the end, with no
 // room for a field.
 pub fn slot_place(s: &[u8], at: usize) -> usize
-    ensures { λ r. ⌜ r ≤ length (old s) ⌝ }
+    ensures { λ r. ⌜ SlotPlace (old s) at r ⌝ }
 {
     if s.len() < at {
         return s.len();
@@ -32,31 +33,28 @@ pub fn slot_place(s: &[u8], at: usize) -> usize
     }
 }
 
-// How far it is from a record of this kind and length to the next in byte order: over its free bytes, or to its first
-// child.
-fn step(kind: u32, length: usize) -> usize {
-    let shape = shape_of(kind);
-    let holds = shape.holds;
-    match holds {
-        Holds::FreeBytes => length,
-        _ => HEAD_END + FIELD * shape.fields,
-    }
-}
-
-// Where the record after the one at `at` starts, in byte order.
+// Where the record after the one at `at` starts, in byte order: after its free bytes, or where its children start.
 pub fn next_record(s: &[u8], at: usize) -> usize
     requires { ⌜ at < length (now s) ⌝ }
-    ensures { λ r. ⌜ (at < r) × (r ≤ length (old s)) ⌝ }
+    ensures { λ r. ⌜ NextRecord (old s) at r ⌝ }
 {
-    if s.len() - at < HEAD_END {
+    let room = s.len() - at;
+    if room < HEAD_END {
         return s.len();
     }
-    let far = step(half(s, at + KIND), length_at(s, at));
-    if far < HEAD_END {
+    let len = length_at(s, at);
+    if room < len {
         return s.len();
     }
-    if s.len() - at < far {
+    let shape = shape_of(half(s, at + KIND));
+    let start = HEAD_END + FIELD * shape.fields;
+    if len < start {
         return s.len();
     }
-    at + far
+    let holds = shape.holds;
+    let due = due_in(holds);
+    if due.free {
+        return at + len;
+    }
+    at + start
 }

@@ -6,11 +6,11 @@ use type_check::Answer;
 use type_check::type_check_module;
 ghost use mathlib.Core.Path.{_≡_};
 ghost use Prim.Native.Nat.{_+_, _*_, _≤_};
-ghost use lib.ListN.{length, replicate};
+ghost use lib.ListN.{length};
 ghost use Rattle.contract.specs.Moments.{old, final};
 ghost use Rattle.fallible.specs.Errors.{errorWidth, errorAt};
 ghost use Rattle.type_check.specs.Post.{buffersBefore, buffersAfter, outcomeOf};
-ghost use Rattle.records.specs.Records.{recordsFrom, recordCount, zeroRecord, CheckedWords, CheckedRecords};
+ghost use Rattle.records.specs.Records.{recordsFrom, recordCount, CheckedWords, CheckedRecords};
 
 // The error at a number, from 0, by its words.
 fn error_at(words: &[u32], number: usize) -> Error
@@ -95,43 +95,4 @@ pub fn type_check_module_records(
     let count = record_count(answer, records.len());
     fill_records(records, words, count);
     answer
-}
-
-// What a report is made of: the answer, and the records of a list as long as the report program lends.
-pub struct Report {
-    pub answer: Answer,
-    pub errors: [Error; 2000],
-}
-
-fn zero_records() -> [Error; 2000]
-    ensures { λ r. ⌜ r ≡ replicate 2000 zeroRecord ⌝ }
-{
-    let zero = Error {
-        kind: 0,
-        file: 0,
-        line: 0,
-        column: 0,
-        first: 0,
-        second: 0,
-        third: 0,
-    };
-    [zero; 2000]
-}
-
-// `type_check_module_records` with a list of its own, which goes to the caller by value.
-pub fn report_module(
-    input: &[u8],
-    output: &mut [u8],
-    rows: &mut [u32],
-    words: &mut [u32],
-    work: &mut [u32],
-) -> Report
-    ensures { λ r. ⌜ CheckedRecords (old input)
-        (buffersBefore output rows words work)
-        (buffersAfter output rows words work)
-        (replicate 2000 zeroRecord) (r .errors) (outcomeOf (r .answer)) ⌝ }
-{
-    let mut errors = zero_records();
-    let answer = type_check_module_records(input, output, rows, words, &mut errors, work);
-    Report { answer, errors }
 }

@@ -51,9 +51,9 @@ pub record Sized (w : List ℕ) (count n : ℕ) (work work′ : List ℕ) (answe
   pub size : answer ≡ wordSizeOf (unfolded w n)
   pub filled : WorkFilled w count work work′
 
--- Refused with 5 at place 0 if there are fewer working words than rows; else with 8 at place 0 exactly if the number is no type row of
--- rows that obey the rules. A refusal leaves the working words as they were
+-- Refused with 8 at place 0 exactly if the number is no type row of rows that obey the rules; else with 5 at place 0 if there are fewer
+-- working words than rows. A refusal leaves the working words as they were
 abbrev pub Measures : (w : List ℕ) (count n : ℕ) (work work′ : List ℕ) → Outcome WordSize → Type 0
-Measures w count n work work′ (accepted s) = (count ≤ length work) × OneType w count n × Sized w count n work work′ s
+Measures w count n work work′ (accepted s) = OneType w count n × (count ≤ length work) × Sized w count n work work′ s
 Measures w count n work work′ (refused number place) =
-    (((length work < count) × (number ≡ 5)) ⊎ ((count ≤ length work) × (OneType w count n → ⊥) × (number ≡ 8))) × (place ≡ 0) × (work′ ≡ work)
+    (((OneType w count n → ⊥) × (number ≡ 8)) ⊎ (OneType w count n × (length work < count) × (number ≡ 5))) × (place ≡ 0) × (work′ ≡ work)

@@ -250,7 +250,7 @@ fn fill_words(rows: &[u32], count: u32, work: &mut [u32])
 }
 
 // How many words the type of row n has.
-pub fn word_size(rows: &[u32], count: u32, n: u32, work: &mut [u32]) -> WordSize
+fn word_size(rows: &[u32], count: u32, n: u32, work: &mut [u32]) -> WordSize
     requires { ⌜ OneType (now rows) count n × (count ≤ length (now work)) ⌝ }
     ensures { λ r. ⌜ Sized (old rows) count n (old work) (final work) r ⌝ }
 {
@@ -311,11 +311,11 @@ pub fn castable(rows: &[u32], count: u32, source: u32, target: u32) -> Answer
 pub fn words(rows: &[u32], count: u32, n: u32, work: &mut [u32]) -> Measured
     ensures { λ r. ⌜ Measures (old rows) count n (old work) (final work) (measuredOf r) ⌝ }
 {
-    if work.len() < count as usize {
-        return Measured::ShortLoan;
-    }
     if !one_type(rows, count, n) {
         return Measured::BadRows;
+    }
+    if work.len() < count as usize {
+        return Measured::ShortLoan;
     }
     Measured::Size(word_size(rows, count, n, work))
 }

@@ -93,7 +93,7 @@ length-permuted s =
 pub whole-places : (s places : List ℕ) → Places s places → Whole s (16 + wordAt s 16) places
 whole-places s places p =
     let w = whole-items s (p .layout) in
-    record { each = each-permuted (IsItem s) (p .permuted) (w .each); fill = ap (λ (x : ℕ). 16 + wordAt s 16 + x) (sym (length-permuted s (p .permuted))) ∙ w .fill }
+    record { each = each-permuted (IsItem s) (p .order) (w .each); fill = ap (λ (x : ℕ). 16 + wordAt s 16 + x) (sym (length-permuted s (p .order))) ∙ w .fill }
 
 items-append : (s l r : List ℕ) → itemsAt s (l ++ r) ≡ itemsAt s l ++ itemsAt s r
 unfolding joined

@@ -6,3 +6,4 @@ pub mod NewOrder
 pub mod Moved
 pub mod NewLayout
 pub mod Outcomes
+pub mod Reorders

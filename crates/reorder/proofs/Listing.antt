@@ -16,7 +16,7 @@ use Rattle.node.specs.Fine.{FineList}
 use Rattle.node.specs.declared.layout.Layout.the-variants.{Good}
 use Rattle.node.proofs.Open.{opened, split-may, fine-stands, module-parts, item-chain}
 use Rattle.node.proofs.NameLaws.{chain-none, chain-more}
-use Rattle.reorder.specs.Order.{PlacesListed}
+use Rattle.reorder.specs.Order.{maxItems, PlacesListed}
 
 -- The records before `at` are listed, those after it are left; each has at least 16 bytes
 pub record Listing (s words : List ℕ) (at count : ℕ) : Type 0 where
@@ -77,7 +77,7 @@ module _ (s : List ℕ) where
         let o = opened s 63 at (length s) anItem (m .first) in
         record { is = fine-stands s 63 at (length s) anItem (m .first); long = omega (arith, o .head, o .body); stops = o .room; rest = m .rest }
 
-    pub listing-on : (w : ℕ) (start : List ℕ) → at < length s → length words ≡ length start → 4096 ≤ length start → w ≡ wordAt s at → Listing s (set words count at) (at + w) (count + 1)
+    pub listing-on : (w : ℕ) (start : List ℕ) → at < length s → length words ≡ length start → maxItems ≤ length start → w ≡ wordAt s at → Listing s (set words count at) (at + w) (count + 1)
     listing-on w start p same long q =
         let n = listing-next p in
         let low = l .low in
@@ -103,7 +103,7 @@ module _ (s : List ℕ) where
     pub listing-fits : at < length s → at + 4 ≤ length s
     listing-fits p = let n = listing-next p in omega (arith, n .long, n .stops)
 
-    pub listing-room : (start : List ℕ) → at < length s → length words ≡ length start → 4096 ≤ length start → count < length words
+    pub listing-room : (start : List ℕ) → at < length s → length words ≡ length start → maxItems ≤ length start → count < length words
     listing-room start p same long = omega (arith, l .low, l .few)
 
     pub listing-less : (w : ℕ) → at < length s → w ≡ wordAt s at → length s - (at + w) < length s - at

@@ -192,5 +192,5 @@ module _ (s places : List ℕ) (p : Places s places) where
       subst (AnotherOrder s) (sym arranged-is)
       (record {
         names = sym new-names;
-        items = λ bytes. times-permuted sameBytes bytes (Permᴰ·map (itemBytes s) (p .permuted)) ∙ ap (timesIn sameBytes bytes) (sym new-items);
+        items = λ bytes. times-permuted sameBytes bytes (Permᴰ·map (itemBytes s) (p .order)) ∙ ap (timesIn sameBytes bytes) (sym new-items);
       })

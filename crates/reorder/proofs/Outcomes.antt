@@ -1,100 +1,98 @@
 -- What `shuffle` answers, and what it has then written. Assumes nothing.
-use Prim.Native.Nat.{ℕ, _+_, _≤_, _<_}
+use Prim.Native.Nat.{ℕ, _≤_, _<_}
 use mathlib.Core.Path.{_≡_, refl, sym, _∙_, ap, subst}
 use mathlib.Core.Bool.{Bool}
-use mathlib.Core.List.{List, _++_, map, List·Permᴰ}
-use mathlib.Core.Option.{none, some}
+use mathlib.Core.List.{List, _++_, List·Permᴰ}
+use mathlib.Core.Option.{Option, none, some}
 use native.Mathlib.Omega.{arith}
 use lib.Dec.{ltb}
-use lib.ListN.{length, take, drop, length-append}
-use lib.Seq.{length-take-le, take-at, drop-at, take-append-le}
+use lib.ListN.{length, take, drop}
+use lib.Seq.{length-take-le, take-at}
 use borrow.Author.Tests.{lt-ltb, le-ltb}
-use Rattle.fallible.specs.Outcome.{orNext}
-use Rattle.node.specs.Names.{namesEnd, itemBytes}
-use Rattle.node.specs.Layout.{layoutOf, layoutRefusal}
+use Rattle.fallible.specs.Outcome.{Outcome, refused, accepted, orNext, outcomeAfter}
+use Rattle.node.specs.Layout.{layoutOf, layoutRefusal, layoutTests}
 use Rattle.node.specs.declared.layout.Layout.{Layout}
 use Rattle.node.specs.declared.layout.Layout.the-variants.{Good, TooLong, Fault, TooDeep}
-use Rattle.node.proofs.Open.{names-end}
+use Rattle.node.proofs.LayoutLaws.{only-good}
 use Rattle.meaning.specs.Promise.{refuseIf}
-use Rattle.meaning.specs.JoiningOrder.{AnotherOrder}
 use Rattle.meaning.proofs.Permutation.{length-permuted}
-use Rattle.reorder.specs.Order.{joined, arranged, PlacesListed, Places, refusal, Reordered}
-use Rattle.reorder.proofs.Listing.{names-room}
-use Rattle.reorder.proofs.NewOrder.{arranged-is, new-length, new-order}
-use Rattle.reorder.proofs.NewLayout.{new-layout}
+use Rattle.reorder.specs.Order.{arranged, permutedBy, shuffledModule, PlacesListed, Places, refusal, Shuffled}
+use Rattle.reorder.proofs.Exchanges.{permuted-by}
 
--- The places in another order, before the words past them
-module _ (s words : List ℕ) (count : ℕ) (l : PlacesListed s words count) where
+-- The places in the order of the number, before the words past them
+module _ (s words places : List ℕ) (count number : ℕ) (l : PlacesListed s words count) where
   pub listed-count : count ≡ length (take count words)
   listed-count = sym (length-take-le count words (l .inside))
 
-  module _ (places : List ℕ) (o : List·Permᴰ (take count words) places) where
-    as-many : length places ≡ count
-    as-many = sym (listed-count ∙ length-permuted o)
+  module _ (e : places ≡ permutedBy number (take count words)) where
+    order : List·Permᴰ (take count words) places
+    order = subst (List·Permᴰ (take count words)) (sym e) (permuted-by number (take count words))
 
-    pub permuted-inside : count ≤ length (places ++ drop count words)
-    permuted-inside = omega (arith, as-many, length-append places (drop count words))
+    taken : take count (places ++ drop count words) ≡ places
+    taken = take-at places (drop count words) count (sym (listed-count ∙ length-permuted order))
 
     pub permuted-count : count ≡ length (take count (places ++ drop count words))
-    permuted-count = sym (length-take-le count (places ++ drop count words) permuted-inside)
+    permuted-count = listed-count ∙ length-permuted order ∙ ap length (sym taken)
 
     pub permuted-places : layoutOf s ≡ Good → Places s (take count (places ++ drop count words))
-    permuted-places e =
-        subst (Places s) (sym (take-at places (drop count words) count as-many)) (record { layout = e; permuted = subst (λ (x : List ℕ). List·Permᴰ x places) (l .are) o })
+    permuted-places good = subst (Places s) (sym taken) (record { layout = good; order = subst (λ (x : List ℕ). List·Permᴰ x places) (l .are) order })
 
--- What `arrange` has written
-new-start : (s places before after : List ℕ) → Places s places → after ≡ arranged s places ++ drop (length s) before → take (namesEnd s) after ≡ take (namesEnd s) s
-unfolding arranged
-new-start s places before after p e =
-    let h : namesEnd s ≤ length s = omega (arith, names-end s (p .layout), names-room s (p .layout) .2) in
-    let long : length (take (namesEnd s) s) ≡ namesEnd s = length-take-le (namesEnd s) s h in
-    let size : length (arranged s places) ≡ length s = ap length (arranged-is s places p) ∙ new-length s places p in
-    ap (take (namesEnd s)) e ∙ take-append-le (namesEnd s) (arranged s places) (drop (length s) before) (omega arith)
-    ∙ take-at (take (namesEnd s) s) (joined (map (itemBytes s) places)) (namesEnd s) long
+    -- what `arrange` has written then
+    pub written : (before after : List ℕ) → after ≡ arranged s (take count (places ++ drop count words)) ++ drop (length s) before
+        → after ≡ shuffledModule s number ++ drop (length s) before
+    unfolding shuffledModule
+    written before after w =
+        w ∙ ap (λ (x : List ℕ). arranged s x ++ drop (length s) before) (taken ∙ e ∙ ap (permutedBy number) (l .are))
 
-reordered : (s places before after : List ℕ) → Places s places → length s ≤ length before → after ≡ arranged s places ++ drop (length s) before → Reordered s before after
-reordered s places before after p h e =
-    let m = arranged s places in
-    let long : length m ≡ length s = ap length (arranged-is s places p) ∙ new-length s places p in
-    let whole : take (length s) after ≡ m = ap (take (length s)) e ∙ take-at m (drop (length s) before) (length s) long in
-    record {
-      order = subst (AnotherOrder s) (sym whole) (new-order s places p);
-      layout = ap layoutOf whole ∙ new-layout s places p;
-      names = new-start s places before after p e;
-      past = ap (drop (length s)) e ∙ drop-at m (drop (length s) before) (length s) long;
-    }
+-- Turned back, or written
+refused-never : {cause place : ℕ} → _≡_ {A = Outcome Unit} (refused cause place) (accepted tt) → ⊥
+refused-never e = let z : _≡_ {A = ℕ} 0 1 = cc in omega arith
 
-pub written : (s words places before after : List ℕ) (count : ℕ) → layoutOf s ≡ Good → PlacesListed s words count → List·Permᴰ (take count words) places → length s ≤ length before
-    → after ≡ arranged s (take count (places ++ drop count words)) ++ drop (length s) before → Reordered s before after
-written s words places before after count good l o h e =
-    reordered s (take count (places ++ drop count words)) before after (permuted-places s words count l places o good) h e
+module _ (input : List ℕ) (number : ℕ) (before : List ℕ) where
+  turned-back : (cause place : ℕ) → refusal input (length before) ≡ some (cause, place) → Shuffled input number before before (refused cause place)
+  turned-back cause place e =
+      record {
+        answers = ap (λ (x : Option (ℕ × ℕ)). outcomeAfter x (accepted tt)) (sym e);
+        untouched = λ _ _ _. refl;
+        written = λ z. absurd (refused-never z);
+      }
 
--- Tests 1 to 3, by what the layout is
-module _ (input : List ℕ) (room : ℕ) (r : Layout) (e : r ≡ layoutOf input) where
-  by-layout : {y : Layout} → r ≡ y → refusal input room ≡ orNext (layoutRefusal y) (refuseIf (ltb room (length input)) 5)
-  by-layout q = ap (λ (x : Layout). orNext (layoutRefusal x) (refuseIf (ltb room (length input)) 5)) (sym e ∙ q)
+  -- Tests 1 to 3, by what the layout is
+  module _ (r : Layout) (e : layoutRefusal r ≡ layoutTests input) where
+    by-layout : {y : Layout} → r ≡ y → refusal input (length before) ≡ orNext (layoutRefusal y) (refuseIf (ltb (length before) (length input)) 5)
+    by-layout q = ap (λ (x : Option (ℕ × ℕ)). orNext x (refuseIf (ltb (length before) (length input)) 5)) (sym e ∙ ap layoutRefusal q)
 
-  pub too-long : r ≡ TooLong → refusal input room ≡ some (1, 0)
-  unfolding layoutRefusal
-  too-long q = by-layout q
+    pub too-long : r ≡ TooLong → Shuffled input number before before (refused 1 0)
+    unfolding layoutRefusal
+    too-long q = turned-back 1 0 (by-layout q)
 
-  pub a-fault : {p : ℕ} → r ≡ Fault p → refusal input room ≡ some (2, p)
-  unfolding layoutRefusal
-  a-fault q = by-layout q
+    pub a-fault : {p : ℕ} → r ≡ Fault p → Shuffled input number before before (refused 2 p)
+    unfolding layoutRefusal
+    a-fault {p} q = turned-back 2 p (by-layout q)
 
-  pub too-deep : {p : ℕ} → r ≡ TooDeep p → refusal input room ≡ some (3, p)
-  unfolding layoutRefusal
-  too-deep q = by-layout q
+    pub too-deep : {p : ℕ} → r ≡ TooDeep p → Shuffled input number before before (refused 3 p)
+    unfolding layoutRefusal
+    too-deep {p} q = turned-back 3 p (by-layout q)
 
-  pub good-layout : r ≡ Good → layoutOf input ≡ Good
-  good-layout q = sym e ∙ q
+    pub good-layout : r ≡ Good → layoutOf input ≡ Good
+    unfolding layoutRefusal
+    good-layout q = only-good (layoutOf input) (sym e ∙ ap layoutRefusal q)
 
--- Test 5
-module _ (input : List ℕ) (room : ℕ) (e : layoutOf input ≡ Good) where
-  pub short-output : room < length input → refusal input room ≡ some (5, 0)
-  unfolding layoutRefusal
-  short-output h = by-layout input room (layoutOf input) refl e ∙ ap (λ (b : Bool). refuseIf b 5) (lt-ltb room (length input) h)
+  -- Test 5
+  module _ (e : layoutOf input ≡ Good) where
+    by-room : refusal input (length before) ≡ refuseIf (ltb (length before) (length input)) 5
+    unfolding layoutRefusal
+    by-room = ap (λ (l : Layout). orNext (layoutRefusal l) (refuseIf (ltb (length before) (length input)) 5)) e
 
-  pub no-refusal : length input ≤ room → refusal input room ≡ none
-  unfolding layoutRefusal
-  no-refusal h = by-layout input room (layoutOf input) refl e ∙ ap (λ (b : Bool). refuseIf b 5) (le-ltb room (length input) h)
+    pub short-output : length before < length input → Shuffled input number before before (refused 5 0)
+    short-output h = turned-back 5 0 (by-room ∙ ap (λ (b : Bool). refuseIf b 5) (lt-ltb (length before) (length input) h))
+
+    pub all-written : (after : List ℕ) → length input ≤ length before → after ≡ shuffledModule input number ++ drop (length input) before
+        → Shuffled input number before after (accepted tt)
+    all-written after h w =
+        let none-refuses : refusal input (length before) ≡ none = by-room ∙ ap (λ (b : Bool). refuseIf b 5) (le-ltb (length before) (length input) h) in
+        record {
+          answers = ap (λ (x : Option (ℕ × ℕ)). outcomeAfter x (accepted tt)) (sym none-refuses);
+          untouched = λ cause place z. absurd (refused-never (sym z));
+          written = λ _. w;
+        }

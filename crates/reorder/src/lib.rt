@@ -4,14 +4,15 @@ use node::bytes::length_at;
 use node::layout::Layout;
 use node::layout::check_layout;
 ghost use mathlib.Core.Path.{_≡_};
-ghost use mathlib.Core.List.{_++_, List·Permᴰ};
+ghost use mathlib.Core.List.{_++_};
 ghost use Prim.Native.Nat.{_+_, _<_, _≤_};
 ghost use lib.ListN.{length, drop};
 ghost use lib.Seq.{paste};
 ghost use Rattle.contract.specs.Moments.{old, final};
 ghost use Rattle.node.specs.Layout.{layoutOf};
 ghost use Rattle.node.specs.declared.layout.Layout.the-variants.{Good};
-ghost use Rattle.reorder.specs.Order.{arranged, exchanged, PlacesListed, Places, Reordered, Shuffled};
+ghost use Rattle.reorder.specs.Order.{arranged, exchanged, modulus, nextNumber, permutedBy, shuffledModule};
+ghost use Rattle.reorder.specs.Order.{maxItems, PlacesListed, Places, outcomeOf, Shuffled};
 
 // The answer: the module is written, or turned back for a reason and at a place.
 pub enum Answer {
@@ -30,7 +31,7 @@ const FACTOR: usize = 279470273;
 // Stores the places of the items, and answers how many there are.
 fn list_items(s: &[u8], places: &mut [usize]) -> usize
     requires { ⌜ layoutOf (now s) ≡ Good ⌝ }
-    requires { ⌜ 4096 ≤ length (now places) ⌝ }
+    requires { ⌜ maxItems ≤ length (now places) ⌝ }
     ensures { λ r. ⌜ PlacesListed (old s) (final places) r ⌝ }
 {
     let mut at = HEAD_END + length_at(s, HEAD_END);
@@ -55,15 +56,15 @@ fn exchange(places: &mut [usize], i: usize, j: usize)
 
 // The number after this one.
 fn next_number(number: usize) -> usize
-    requires { ⌜ number < 4294967291 ⌝ }
-    ensures { λ r. ⌜ r < 4294967291 ⌝ }
+    requires { ⌜ number < modulus ⌝ }
+    ensures { λ r. ⌜ r ≡ nextNumber number ⌝ }
 {
     (number * FACTOR + 1) % MODULUS
 }
 
 // Puts the places in an order that the number decides: each, from the last, is exchanged with one of those up to it.
 fn permute(places: &mut [usize], seed: usize)
-    ensures { λ _. ⌜ List·Permᴰ (old places) (final places) ⌝ }
+    ensures { λ _. ⌜ final places ≡ permutedBy seed (old places) ⌝ }
 {
     let mut number = seed % MODULUS;
     let mut left = places.len();
@@ -108,9 +109,9 @@ fn arrange(s: &[u8], places: &[usize], output: &mut [u8])
 // their places.
 fn write_items(input: &[u8], number: usize, places: &mut [usize], output: &mut [u8])
     requires { ⌜ layoutOf (now input) ≡ Good ⌝ }
-    requires { ⌜ 4096 ≤ length (now places) ⌝ }
+    requires { ⌜ maxItems ≤ length (now places) ⌝ }
     requires { ⌜ length (now input) ≤ length (now output) ⌝ }
-    ensures { λ _. ⌜ Reordered (old input) (old output) (final output) ⌝ }
+    ensures { λ _. ⌜ final output ≡ shuffledModule (old input) number ++ drop (length (old input)) (old output) ⌝ }
 {
     let count = list_items(input, places);
     permute(&mut places[..count], number);
@@ -120,7 +121,7 @@ fn write_items(input: &[u8], number: usize, places: &mut [usize], output: &mut [
 // The same, if the output is as long as the input.
 fn shuffle_items(input: &[u8], number: usize, output: &mut [u8]) -> Answer
     requires { ⌜ layoutOf (now input) ≡ Good ⌝ }
-    ensures { λ r. ⌜ Shuffled (old input) (old output) (final output) r ⌝ }
+    ensures { λ r. ⌜ Shuffled (old input) number (old output) (final output) (outcomeOf r) ⌝ }
 {
     if output.len() < input.len() {
         return Answer::Refused {
@@ -135,7 +136,7 @@ fn shuffle_items(input: &[u8], number: usize, output: &mut [u8]) -> Answer
 
 // Writes the module with its items in an order that the number decides; or says why it is turned back.
 pub fn shuffle(input: &[u8], number: usize, output: &mut [u8]) -> Answer
-    ensures { λ r. ⌜ Shuffled (old input) (old output) (final output) r ⌝ }
+    ensures { λ r. ⌜ Shuffled (old input) number (old output) (final output) (outcomeOf r) ⌝ }
 {
     let layout = check_layout(input);
     match layout {

@@ -1,8 +1,10 @@
 // Runs the checker on cases whose answers are known, and prints a line for each of the first that differ, then how
-// many were accepted and refused as expected and how many differ. Standard input is a list of cases (src/judge.rt).
+// many were accepted and refused as expected and how many differ. Standard input is a list of cases (src/case.rt).
+mod case;
 mod errors;
 mod expected;
 mod judge;
+mod lent;
 mod output;
 mod row_numbers;
 
@@ -11,8 +13,10 @@ use judge::judge;
 use libc::STDIN_FILENO;
 use node::bytes::length_at;
 use program_support::loans;
-use program_support::print::print_text;
-use program_support::print::print_word;
+use program_support::print::BUFFER;
+use program_support::print::flush;
+use program_support::print::put_text;
+use program_support::print::put_word;
 ghost use Prim.Native.Nat.{_+_, _<_, _≤_};
 ghost use lib.ListN.{length};
 ghost use Rattle.contract.specs.Moments.{final};
@@ -48,15 +52,7 @@ struct Tally {
     differ: u32,
 }
 
-fn print_difference(k: u32, differ: u32) {
-    if differ < SHOWN {
-        print_text(b"differ ");
-        print_word(k);
-        print_text(b"\n");
-    }
-}
-
-// Counts case k, and prints its number if it differs.
+// Counts case k.
 fn count(tally: Tally, k: u32, verdict: Verdict) -> Tally
     requires { ⌜ (tally .good ≤ k) × (tally .refused ≤ k) × (tally .differ ≤ k) × (k < 1000000) ⌝ }
     ensures { λ r. ⌜ (r .good ≤ k + 1) × (r .refused ≤ k + 1) × (r .differ ≤ k + 1) ⌝ }
@@ -72,26 +68,41 @@ fn count(tally: Tally, k: u32, verdict: Verdict) -> Tally
             refused: tally.refused + 1,
             differ: tally.differ,
         },
-        Verdict::Differs => {
-            print_difference(k, tally.differ);
-            Tally {
-                good: tally.good,
-                refused: tally.refused,
-                differ: tally.differ + 1,
-            }
-        }
+        Verdict::Differs => Tally {
+            good: tally.good,
+            refused: tally.refused,
+            differ: tally.differ + 1,
+        },
+    }
+}
+
+// `differ 7`
+fn put_case(buffer: &mut [u8], used: usize, k: u32) -> usize {
+    let differ = put_text(buffer, used, b"differ ");
+    let number = put_word(buffer, differ, k);
+    put_text(buffer, number, b"\n")
+}
+
+// The number of case k, if it is one of the first that differ.
+fn put_difference(buffer: &mut [u8], used: usize, k: u32, differ: u32, verdict: Verdict) -> usize {
+    if SHOWN <= differ {
+        return used;
+    }
+    match verdict {
+        Verdict::Differs => put_case(buffer, used, k),
+        _ => used,
     }
 }
 
 // `good 12 refused 3 differ 0`
-fn print_tally(tally: Tally) {
-    print_text(b"good ");
-    print_word(tally.good);
-    print_text(b" refused ");
-    print_word(tally.refused);
-    print_text(b" differ ");
-    print_word(tally.differ);
-    print_text(b"\n");
+fn put_tally(buffer: &mut [u8], used: usize, tally: Tally) -> usize {
+    let good = put_text(buffer, used, b"good ");
+    let good_count = put_word(buffer, good, tally.good);
+    let refused = put_text(buffer, good_count, b" refused ");
+    let refused_count = put_word(buffer, refused, tally.refused);
+    let differ = put_text(buffer, refused_count, b" differ ");
+    let differ_count = put_word(buffer, differ, tally.differ);
+    put_text(buffer, differ_count, b"\n")
 }
 
 fn main() {
@@ -100,6 +111,8 @@ fn main() {
     let mut rows = [0u32; loans::ROWS];
     let mut errors = [0u32; loans::ERRORS];
     let mut work = [0u32; loans::WORK];
+    let mut buffer = [0u8; BUFFER];
+    let mut held: usize = 0;
     let mut tally = Tally {
         good: 0,
         refused: 0,
@@ -118,8 +131,10 @@ fn main() {
             &mut errors,
             &mut work,
         );
+        held = put_difference(&mut buffer, held, k, tally.differ, verdict);
         tally = count(tally, k, verdict);
         k += 1;
     }
-    print_tally(tally);
+    held = put_tally(&mut buffer, held, tally);
+    flush(&buffer, held);
 }

@@ -9,7 +9,7 @@ use borrow.Author.Tests.{leb-true, leb-false, le-leb, lt-leb, eqb-true, eqb-fals
 use lib.Dec.{leb, eqb}
 use lib.ListN.{length, getD, set, replicate, length-set, length-replicate, getD-replicate}
 use lib.Seq.{getD-set-same, getD-set-other}
-use Rattle.rows.specs.Row.{rowAt}
+use Rattle.rows.specs.Row.{rowAt, Distinct}
 use Rattle.rows.specs.Search.{Decides, Found}
 use Rattle.rows.specs.declared.Words.{Words}
 use Rattle.rows.proofs.Search.{last-or}
@@ -89,7 +89,20 @@ module _ (w b : List ℕ) (m count : ℕ) (r : Words) where
           lower i h g =
               last-or (n - 1) i (omega arith) (i < n) (λ l. omega arith) (λ here. let j : n ≡ i = omega arith in absurd (d .no f (e ∙ ap (rowAt w) j ∙ g)))
 
--- The answer of `find` where no row in the bucket is it: none, or a row that has no place
+-- The answer of `find`: where a row of the bucket is it, no other row is
+pub found-followed : {w : List ℕ} {m count : ℕ} {r : Words} {n : ℕ} → Distinct w count → Followed w m count r n → (n ≡ 0 → ⊥) → Found w m count r n
+found-followed {w} {n = n} d s ne =
+    let p = s .past (omega arith) in
+    let h = s .high in
+    record {
+      high = h;
+      past = s .past;
+      found = s .found;
+      first = λ i l q x. let e = d i n (omega arith) (omega arith) (omega arith) h (x ∙ sym (s .found (omega arith))) in omega arith;
+      absent = λ z. absurd (ne z);
+    }
+
+-- Where none is: none at all, or a row that has no place
 module _ {w : List ℕ} {m count : ℕ} {r : Words} {n : ℕ} (s : Followed w m count r n) (z : n ≡ 0) where
   pub found-none : count ≤ places → Found w m count r 0
   found-none h =
@@ -97,16 +110,27 @@ module _ {w : List ℕ} {m count : ℕ} {r : Words} {n : ℕ} (s : Followed w m 
         high = omega arith;
         past = λ l. absurd (omega arith);
         found = λ l. absurd (omega arith);
+        first = λ i l q. absurd (omega arith);
         absent = λ _ i l q. s .absent z i l q (omega arith);
       }
 
   pub found-behind : {k : ℕ} → Found w places count r k → m < places → Found w m count r k
   found-behind {k} f h =
-      record { high = f .high; past = λ l. let p = f .past l in omega arith; found = f .found; absent = λ y i l q x. go y i l q x (leb i places) refl }
+      record {
+        high = f .high;
+        past = λ l. let p = f .past l in omega arith;
+        found = f .found;
+        first = λ i l q x. earlier i l q x (leb i places) refl;
+        absent = λ y i l q x. none y i l q x (leb i places) refl;
+      }
     where
-      go : k ≡ 0 → (i : ℕ) → m < i → i ≤ count → rowAt w i ≡ r → (t : Bool) → leb i places ≡ t → ⊥
-      go y i l q x true t = s .absent z i l q (leb-true i places t) x
-      go y i l q x false t = f .absent y i (leb-false i places t) q x
+      earlier : (i : ℕ) → m < i → i < k → rowAt w i ≡ r → (t : Bool) → leb i places ≡ t → ⊥
+      earlier i l q x true t = let h = f .high in s .absent z i l (omega arith) (leb-true i places t) x
+      earlier i l q x false t = f .first i (leb-false i places t) q x
+
+      none : k ≡ 0 → (i : ℕ) → m < i → i ≤ count → rowAt w i ≡ r → (t : Bool) → leb i places ≡ t → ⊥
+      none y i l q x true t = s .absent z i l q (leb-true i places t) x
+      none y i l q x false t = f .absent y i (leb-false i places t) q x
 
 -- A row in its bucket
 pub with-row : (b : List ℕ) (n : ℕ) (r : Words) → n ≤ places → withRow b n r ≡ set (set b (heads + n - 1) (getD b (bucketOf r) 0)) (bucketOf r) n
@@ -259,19 +283,3 @@ indexed-more {w} {c} {b} l r e = go (leb (c + 1) places) refl
     go : (t : Bool) → leb (c + 1) places ≡ t → Indexed w (c + 1) (withRow b (c + 1) r)
     go true t = let h = leb-true _ _ t in subst (Indexed w (c + 1)) (sym (with-row b (c + 1) r h)) (indexed-after w c b r e l h)
     go false t = let h = leb-false _ _ t in subst (Indexed w (c + 1)) (sym (without-row b (c + 1) r h)) (indexed-full w c b r e l h)
-
--- The first n of the rows are in their buckets
-pub record Linking (w : List ℕ) (count : ℕ) (b : List ℕ) (n : ℕ) : Type 0 where
-  pub high : n ≤ count
-  pub indexed : Indexed w n b
-
-module _ (w : List ℕ) (count : ℕ) (b : List ℕ) where
-  pub linking-start : Indexed w 0 b → Linking w count b 0
-  linking-start x = record { high = omega arith; indexed = x }
-
-  module _ (n : ℕ) (s : Linking w count b n) where
-    pub linking-on : n < count → (q : Words) → q ≡ rowAt w (n + 1) → (b′ : List ℕ) → b′ ≡ withRow b (n + 1) q → Linking w count b′ (n + 1)
-    linking-on h q e b′ same = record { high = omega arith; indexed = subst (Indexed w (n + 1)) (sym same) (indexed-more (s .indexed) q (sym e)) }
-
-    pub linking-end : count ≤ n → Indexed w count b
-    linking-end h = let p = s .high in let e : n ≡ count = omega arith in subst (λ (x : ℕ). Indexed w x b) e (s .indexed)

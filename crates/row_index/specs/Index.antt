@@ -1,5 +1,5 @@
 -- An index of rows: for each bucket its highest row, and for each row the one before it in its bucket.
-use Prim.Native.Nat.{ℕ, _+_, _-_, _*_, _/_, _%_, _≤_, _<_}
+use Prim.Native.Nat.{ℕ, zero, suc, _+_, _-_, _*_, _/_, _%_, _≤_, _<_}
 use mathlib.Core.Path.{_≡_}
 use mathlib.Core.Bool.{cond}
 use mathlib.Core.List.{List}
@@ -45,6 +45,15 @@ pub record Indexed (w : List ℕ) (count : ℕ) (b : List ℕ) : Type 0 where
 -- The index b with row n, of the words r, in its bucket; b as it is if row n has no place
 unfoldable pub withRow : List ℕ → (n : ℕ) → Words → List ℕ
 withRow b n r = cond (leb n places) (set (set b (heads + n - 1) (getD b (bucketOf r) 0)) (bucketOf r) n) b
+
+-- The index b with so many rows of w in addition, those past row m, one after the other
+unfoldable pub withNext : (b w : List ℕ) → (m more : ℕ) → List ℕ
+withNext b w m zero = b
+withNext b w m (suc k) = withRow (withNext b w m k) (m + k + 1) (rowAt w (m + k + 1))
+
+-- The index b with the rows of w past row m, as far as row n
+abbrev pub withRows : (b w : List ℕ) → (m n : ℕ) → List ℕ
+withRows b w m n = withNext b w m (n - m)
 
 -- n is the number of a row past row m that has the words r, or 0 where none of the rows that have a place is such a row
 pub record Followed (w : List ℕ) (m count : ℕ) (r : Words) (n : ℕ) : Type 0 where

@@ -7,9 +7,9 @@ ghost use mathlib.Core.Path.{_≡_};
 ghost use Prim.Native.Nat.{_*_, _≤_, _<_};
 ghost use lib.ListN.{length};
 ghost use Rattle.contract.specs.Moments.{old, final};
-ghost use Rattle.rows.specs.Row.{rowWidth};
+ghost use Rattle.rows.specs.Row.{rowWidth, Distinct};
 ghost use Rattle.rows.specs.Search.{Found};
-ghost use Rattle.row_index.specs.Index.{heads, bucketOf, withRow, Indexed, Followed};
+ghost use Rattle.row_index.specs.Index.{heads, bucketOf, withRow, withRows, Indexed, Followed};
 
 // The words of an index: the highest row of each bucket, then, for each row that has a place, the one before it in its
 // bucket.
@@ -57,10 +57,10 @@ fn follow(rows: &[u32], index: &[u16; LENGTH], m: u32, count: u32, row: Words) -
     0
 }
 
-// The row past row m that has these words, or 0.
+// The row past row m that has these words, or 0. No two rows are alike.
 pub fn find(rows: &[u32], index: &[u16; LENGTH], m: u32, count: u32, row: Words) -> u32
     requires { ⌜ Indexed (now rows) count (now index) ⌝ }
-    requires { ⌜ (m ≤ count) × (rowWidth * count ≤ length (now rows)) ⌝ }
+    requires { ⌜ (m ≤ count) × (rowWidth * count ≤ length (now rows)) × Distinct (now rows) count ⌝ }
     ensures { λ r. ⌜ Found (old rows) m count row r ⌝ }
 {
     let n = follow(rows, index, m, count, row);
@@ -90,11 +90,10 @@ pub fn link(index: &mut [u16; LENGTH], n: u32, row: Words)
     index[bucket] = n as u16;
 }
 
-// An index of the first `count` rows, of words that are all 0.
+// The first `count` rows come into their buckets, one after the other.
 pub fn link_all(rows: &[u32], count: u32, index: &mut [u16; LENGTH])
     requires { ⌜ rowWidth * count ≤ length (now rows) ⌝ }
-    requires { ⌜ Indexed (now rows) 0 (now index) ⌝ }
-    ensures { λ _. ⌜ Indexed (old rows) count (final index) ⌝ }
+    ensures { λ _. ⌜ final index ≡ withRows (old index) (old rows) 0 count ⌝ }
 {
     let mut n = 0;
     while n < count {

@@ -124,13 +124,26 @@ module _ (w : List ℕ) (m count : ℕ) (r : Words) (key : Key) (n : ℕ) (s : S
   module _ (k : ℕ) (next : NextWith w n count key k) where
     pub found-none : k ≡ 0 → Found w m count r 0
     found-none z =
-        record { high = omega arith; past = λ l. absurd (omega arith); found = λ l. absurd (omega arith); absent = λ _ i l h. unlike-on count (next .absent z) .unlike i l h }
+        record {
+          high = omega arith;
+          past = λ l. absurd (omega arith);
+          found = λ l. absurd (omega arith);
+          first = λ i l h. absurd (omega arith);
+          absent = λ _ i l h. unlike-on count (next .absent z) .unlike i l h;
+        }
 
     module _ (past : k ≡ 0 → ⊥) (q : Words) (e : q ≡ rowAt w k) (b : Bool) (d : Decides (q ≡ r) b) where
       pub found-here : b ≡ true → Found w m count r k
       found-here t =
           let p = next .past (omega arith) in
-          record { high = next .high; past = λ l. omega (arith, s .low); found = λ l. sym e ∙ d .yes t; absent = λ z. absurd (past z) }
+          let l = unlike-on (k - 1) (next .first (omega arith)) in
+          record {
+            high = next .high;
+            past = λ l. omega (arith, s .low);
+            found = λ l. sym e ∙ d .yes t;
+            first = λ i m h. l .unlike i m (omega arith);
+            absent = λ z. absurd (past z);
+          }
 
       pub searching-on : b ≡ false → Searching w m count r key k
       searching-on f =

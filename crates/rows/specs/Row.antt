@@ -1,5 +1,6 @@
 -- Rows of words in a slice, numbered from 1.
-use Prim.Native.Nat.{ℕ, _+_, _-_, _*_}
+use Prim.Native.Nat.{ℕ, _+_, _-_, _*_, _≤_}
+use mathlib.Core.Path.{_≡_}
 use mathlib.Core.List.{List}
 use lib.ListN.{getD, set}
 use Rattle.rows.specs.declared.Words.{Words}
@@ -21,3 +22,7 @@ rowAt w n =
 abbrev pub stored : List ℕ → (count : ℕ) → Words → List ℕ
 stored w count r =
     set (set (set (set w (rowWidth * count) (r .kind)) (rowWidth * count + 1) (r .first)) (rowWidth * count + 2) (r .second)) (rowWidth * count + 3) (r .name)
+
+-- No two of the first `count` rows have the same words
+abbrev pub Distinct : List ℕ → (count : ℕ) → Type 0
+Distinct w count = (i j : ℕ) → 1 ≤ i → i ≤ count → 1 ≤ j → j ≤ count → rowAt w i ≡ rowAt w j → i ≡ j

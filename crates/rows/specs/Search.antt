@@ -40,9 +40,10 @@ pub record NextWith (w : List ℕ) (m count : ℕ) (key : Key) (n : ℕ) : Type 
   pub first : 1 ≤ n → NoneWith w key m (n - 1)
   pub absent : n ≡ 0 → NoneWith w key m count
 
--- n is the number of a row past row m that has the words r, or 0 where there is none
+-- n is the number of the first row past row m that has the words r, or 0 where there is none
 pub record Found (w : List ℕ) (m count : ℕ) (r : Words) (n : ℕ) : Type 0 where
   pub high : n ≤ count
   pub past : 1 ≤ n → m < n
   pub found : 1 ≤ n → rowAt w n ≡ r
+  pub first : (i : ℕ) → m < i → i < n → rowAt w i ≡ r → ⊥
   pub absent : n ≡ 0 → (i : ℕ) → m < i → i ≤ count → rowAt w i ≡ r → ⊥

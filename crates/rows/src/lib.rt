@@ -141,7 +141,7 @@ fn next_with(rows: &[u32], m: u32, count: u32, key: Key) -> u32
     0
 }
 
-// The row past row m that has these words, or 0.
+// The first row past row m that has these words, or 0.
 pub fn find(rows: &[u32], m: u32, count: u32, row: Words) -> u32
     requires { ⌜ (m ≤ count) × (rowWidth * count ≤ length (now rows)) ⌝ }
     ensures { λ r. ⌜ Found (old rows) m count row r ⌝ }

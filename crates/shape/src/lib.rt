@@ -240,8 +240,12 @@ pub fn shape_of(kind: u32) -> Shape
         kinds::NAME => no_field(NAME, Holds::FreeBytes),
         kinds::NAMED_TYPE..=kinds::STRUCT_TYPE => type_shape(kind),
         kinds::FIELD => one_field(FIELD, Rule::Name, Holds::OneType),
-        kinds::IDENTIFIER..=kinds::CAST => expression_shape(kind),
-        kinds::POINTER_TAKE..=kinds::SIZEOF => operator_shape(kind),
+        kinds::IDENTIFIER..=kinds::SIZEOF => {
+            if kind <= kinds::CAST {
+                return expression_shape(kind);
+            }
+            operator_shape(kind)
+        }
         kinds::ARRAY_COMPOUND => no_field(COMPOUND, Holds::Expressions),
         kinds::STRUCT_COMPOUND => no_field(COMPOUND, Holds::CompoundFields),
         kinds::COMPOUND_FIELD => one_field(COMPOUND_FIELD, Rule::Name, Holds::OneExpression),

@@ -9,8 +9,8 @@ use lib.Dec.{ltb}
 use lib.ListN.{length, length-map}
 use borrow.Author.Tests.{lt-ltb, le-ltb, ltb-false}
 use Rattle.fallible.specs.Outcome.{orNext}
-use Rattle.node.specs.Names.{namesOf, nameCount, namePlaces, nameBytes, repeatedName, nameRefusal}
-use Rattle.node.specs.Layout.{layoutOf, layoutRefusal}
+use Rattle.node.specs.Names.{namesOf, nameCount, namePlaces, nameBytes, repeatedName, nameRefusal, nameTest}
+use Rattle.node.specs.Layout.{layoutOf, layoutRefusal, layoutTests}
 use Rattle.node.specs.declared.layout.Layout.{Layout}
 use Rattle.node.specs.declared.layout.Layout.the-variants.{Good, TooLong, Fault, TooDeep}
 use Rattle.node.specs.declared.names.Repeated.{Repeated}
@@ -40,19 +40,22 @@ module _ (input : List ℕ) (output work names : ℕ) (n : names ≡ nameCount i
   enough l w = loans false false (le-ltb output (length input) l) (le-ltb work (workWidth * names) w)
 
 -- Test 4, then 5
-module _ (input : List ℕ) (output work : ℕ) {r : Repeated} (e : r ≡ repeatedName input) where
+module _ (input : List ℕ) (output work : ℕ) {r : Repeated} (e : nameRefusal r ≡ nameTest input) where
+  by-test : {y : Repeated} → r ≡ y → orNext (nameRefusal y) (loanRefusal input output work) ≡ laterRefusal input output work
+  by-test q = ap (λ (x : Option (ℕ × ℕ)). orNext x (loanRefusal input output work)) (ap nameRefusal (sym q) ∙ e)
+
   pub name-repeated : {p : ℕ} → r ≡ At p → some (4, p) ≡ laterRefusal input output work
   unfolding nameRefusal
-  name-repeated q = ap (λ (x : Repeated). orNext (nameRefusal x) (loanRefusal input output work)) (sym q ∙ e)
+  name-repeated q = by-test q
 
   pub no-name-repeated : {x : Option (ℕ × ℕ)} → r ≡ Nowhere → x ≡ loanRefusal input output work → x ≡ laterRefusal input output work
   unfolding nameRefusal
-  no-name-repeated q h = h ∙ ap (λ (x : Repeated). orNext (nameRefusal x) (loanRefusal input output work)) (sym q ∙ e)
+  no-name-repeated q h = h ∙ by-test q
 
 -- Tests 1 to 3, then 4 and 5
-module _ (input : List ℕ) (output work : ℕ) {r : Layout} (e : r ≡ layoutOf input) where
+module _ (input : List ℕ) (output work : ℕ) {r : Layout} (e : layoutRefusal r ≡ layoutTests input) where
   bad : {y : Layout} → r ≡ y → orNext (layoutRefusal y) (laterRefusal input output work) ≡ earlyRefusal input output work
-  bad q = ap (λ (x : Layout). orNext (layoutRefusal x) (laterRefusal input output work)) (sym q ∙ e)
+  bad q = ap (λ (x : Option (ℕ × ℕ)). orNext x (laterRefusal input output work)) (ap layoutRefusal (sym q) ∙ e)
 
   pub too-long : r ≡ TooLong → some (1, 0) ≡ earlyRefusal input output work
   unfolding layoutRefusal

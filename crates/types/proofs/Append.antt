@@ -9,8 +9,8 @@ use borrow.Author.Tests.{eqb-false}
 use lib.Dec.{eqb, ltb}
 use lib.ListN.{length, getD, set, length-set}
 use lib.Seq.{getD-set-same, getD-set-other}
-use Rattle.row_index.specs.Index.{withRow, Indexed}
-use Rattle.row_index.proofs.Index.{indexed-kept, indexed-more}
+use Rattle.row_index.specs.Index.{withRow, withRows}
+use Rattle.row_index.proofs.Additions.{rows-none, rows-more}
 use Rattle.types.specs.Table.{Words, words, rowAt, build, unfolded, hasType, Table, RowOk, Extends}
 use Rattle.types.specs.Post.{Added, Found, highestPart, stored}
 use Rattle.types.proofs.Laws.{unfolded-row, build-below, words-injective, first-at-most, second-at-most, first-lower, second-lower}
@@ -70,11 +70,15 @@ module _ (w : List ℕ) (c : ℕ) (r : Words) where
     kept : Kept w (stored w c r) c
     kept i h = stored-other i (inl h)
 
-    -- It comes into the index of the rows
-    pub stored-indexed : {w′ : List ℕ} → w′ ≡ stored w c r → {b b′ : List ℕ} → Indexed w c b → b′ ≡ withRow b (c + 1) r → Indexed w′ (c + 1) b′
-    stored-indexed {w′} e {b} {b′} x q =
-        let more = indexed-more (indexed-kept x (kept-row w (stored w c r) c kept)) r stored-row in
-        subst (λ (v : List ℕ). Indexed v (c + 1) b′) (sym e) (subst (Indexed (stored w c r) (c + 1)) (sym q) more)
+    -- It comes into the index as the row past the others
+    pub stored-linked : {w′ : List ℕ} → w′ ≡ stored w c r → (b : List ℕ) {b′ : List ℕ} → b′ ≡ withRow b (c + 1) r → b′ ≡ withRows b w′ c (c + 1)
+    stored-linked {w′} e b q =
+        let row = ap (λ (x : List ℕ). rowAt x (c + 1)) e ∙ stored-row in
+        q
+        ∙ sym
+        (rows-more b w′ c c (omega arith)
+        ∙ ap (λ (x : List ℕ). withRow x (c + 1) (rowAt w′ (c + 1))) (rows-none b w′ c)
+        ∙ ap (withRow b (c + 1)) row)
 
     module _ (t : Table w c) (ok : RowOk w c r) where
       extends : Extends w c (stored w c r) (c + 1)

@@ -7,6 +7,9 @@ use mathlib.Core.Logic.{_⊎_, inl, inr, ⊎-elim}
 use native.Mathlib.Omega.{arith}
 use lib.ListN.{length, getD}
 use lib.Dec.{eqb}
+use Rattle.row_index.specs.Index.{withRows, Indexed}
+use Rattle.row_index.proofs.Index.{indexed-kept}
+use Rattle.row_index.proofs.Additions.{rows-then, rows-kept, indexed-rows}
 use Rattle.types.specs.Ty.{Ty, same}
 use Rattle.types.specs.declared.PartKind.{PartKind}
 use Rattle.types.specs.declared.PartKind.the-variants.{Unused, TypeRow, Size, Fields, Arguments}
@@ -117,3 +120,15 @@ module _ (w w′ : List ℕ) (c c′ : ℕ) (e : Extends w c w′ c′) where
       let h = kept-cell w w′ c (e .kept) c k n (omega arith) is in
       let m = e .more in
       record { high = omega arith; kind = h .kind }
+
+  -- The index with the new rows is an index of all
+  pub extends-indexed : {b b′ : List ℕ} → Indexed w c b → b′ ≡ withRows b w′ c c′ → Indexed w′ c′ b′
+  extends-indexed {b} l q =
+      subst (Indexed w′ c′) (sym q) (indexed-rows b w′ c c′ (e .more) (indexed-kept l (kept-row w w′ c (e .kept))))
+
+-- New rows and then more rows come into the index
+pub extends-linked : (w w′ w″ : List ℕ) (c c′ c″ : ℕ) → Extends w c w′ c′ → Extends w′ c′ w″ c″
+    → (b : List ℕ) {b′ b″ : List ℕ} → b′ ≡ withRows b w′ c c′ → b″ ≡ withRows b′ w″ c′ c″ → b″ ≡ withRows b w″ c c″
+extends-linked w w′ w″ c c′ c″ p q b first then =
+    let same = rows-kept b w′ w″ c c′ (λ i l h. kept-row w′ w″ c′ (q .kept) i (omega arith) h) (p .more) in
+    then ∙ ap (λ (x : List ℕ). withRows x w″ c′ c″) (first ∙ sym same) ∙ rows-then b w″ c c′ c″ (p .more) (q .more)

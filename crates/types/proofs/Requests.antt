@@ -6,14 +6,14 @@ use mathlib.Core.Logic.{_⊎_, inl, inr}
 use native.Mathlib.Omega.{arith}
 use lib.ListN.{length}
 use Rattle.types.specs.Ty.{Ty, end, node}
-use Rattle.row_index.specs.Index.{withRow, Indexed}
+use Rattle.row_index.specs.Index.{withRow, withRows}
 use Rattle.types.specs.Table.{Words, rowAt, build, unfolded, hasType, Table, RowOk, IsType, IsCell, NameOk}
 use Rattle.types.specs.Post.{typeOfRow, wordsOf, PartsOk, Sort, Added, NoRoom, Found, highestPart, stored}
 use Rattle.types.specs.declared.Row.{Row}
 use Rattle.types.specs.declared.Row.the-variants.{Pointer, Array, Struct, Function, Alias, DistinctAlias, Field, Argument}
 use Rattle.types.proofs.Laws.{unfolded-zero, unfolded-row}
 use Rattle.types.proofs.Set.{added-found}
-use Rattle.types.proofs.Append.{stored-row, stored-indexed, added-stored, new-type, highest-low, none-like}
+use Rattle.types.proofs.Append.{stored-row, stored-linked, added-stored, new-type, highest-low, none-like}
 
 -- Its words unfold to its type
 pub words-type : (row : Row) (look : ℕ → Ty) → look 0 ≡ end → build (wordsOf row) look ≡ typeOfRow row look
@@ -94,8 +94,8 @@ module _ {w : List ℕ} {c : ℕ} {row : Row} {r : Words} {m n : ℕ} (s : Sough
         words-sort w c n l h row (e ∙ s .words),
       )
 
-  pub intern-indexed : 4 * (c + 1) ≤ length w → {w′ : List ℕ} → w′ ≡ stored w c r → {b b′ : List ℕ} → Indexed w c b → b′ ≡ withRow b (c + 1) r → Indexed w′ (c + 1) b′
-  intern-indexed room = stored-indexed w c r (omega arith)
+  pub intern-linked : 4 * (c + 1) ≤ length w → {w′ : List ℕ} → w′ ≡ stored w c r → (b : List ℕ) {b′ : List ℕ} → b′ ≡ withRow b (c + 1) r → b′ ≡ withRows b w′ c (c + 1)
+  intern-linked room = stored-linked w c r (omega arith)
 
   module _ (z : n ≡ 0) where
     none : (i : ℕ) → 1 ≤ i → i ≤ c → rowAt w i ≡ r → ⊥

@@ -10,7 +10,7 @@ use Rattle.types.specs.Ty.{Ty, end, node, same, unknownKind, voidKind, b
 use Rattle.types.specs.Ty.{arrayKind, structKind, functionKind, aliasKind, distinctKind, fieldKind, argumentKind}
 use Rattle.types.specs.Ty.{stringName}
 pub use Rattle.rows.specs.declared.Words.{Words}
-pub use Rattle.rows.specs.Row.{rowWidth, words, rowAt}
+pub use Rattle.rows.specs.Row.{rowWidth, words, rowAt, Distinct}
 pub use Rattle.rows.specs.Search.{Decides}
 use Rattle.types.specs.declared.PartKind.{PartKind}
 use Rattle.types.specs.declared.PartKind.the-variants.{Unused, TypeRow, Size, Fields, Arguments}
@@ -106,7 +106,7 @@ pub record Table (w : List ℕ) (count : ℕ) : Type 0 where
   pub seven : fixedCount ≤ count
   pub fixed : FixedRows w
   pub rows : (m : ℕ) → m < count → RowOk w m (rowAt w (m + 1))
-  pub distinct : (i j : ℕ) → 1 ≤ i → i ≤ count → 1 ≤ j → j ≤ count → rowAt w i ≡ rowAt w j → i ≡ j
+  pub distinct : Distinct w count
 
 -- w′ has the first `count` rows of w, and past its own rows the words of w
 pub record Extends (w : List ℕ) (count : ℕ) (w′ : List ℕ) (count′ : ℕ) : Type 0 where

@@ -8,7 +8,7 @@ ghost use mathlib.Core.Path.{_≡_};
 ghost use Prim.Native.Nat.{_+_, _*_, _≤_, _<_};
 ghost use lib.ListN.{length};
 ghost use Rattle.contract.specs.Moments.{old, final};
-ghost use Rattle.row_index.specs.Index.{Indexed};
+ghost use Rattle.row_index.specs.Index.{Indexed, withRows};
 ghost use Rattle.types.specs.Ty.{kindOf, firstOf, secondOf, sizeOf, nameOf, desugar as desugared, removeAliasing};
 ghost use Rattle.types.specs.Ty.{cellCount, fieldNamed, arrayKind, structKind, functionKind, fieldKind};
 ghost use Rattle.types.specs.Ty.{argumentKind};
@@ -136,8 +136,8 @@ pub fn size(rows: &[u32], count: u32, n: u32) -> u32
     requires { ⌜ Table (now rows) count × (1 ≤ n) × (n ≤ count) × (kindOf (unfolded (now rows) n) ≡ arrayKind) ⌝ }
     ensures { λ r. ⌜ r ≡ sizeOf (unfolded (old rows) n) ⌝ }
 {
-    let row = row_at(rows, n);
-    row.second
+    let array = row_at(rows, n);
+    array.second
 }
 
 // The type in row n: a pointee, an element, a returned type, an alias' type, a field's or an argument's.
@@ -145,8 +145,8 @@ pub fn part(rows: &[u32], count: u32, n: u32) -> u32
     requires { ⌜ Table (now rows) count × (1 ≤ n) × (n ≤ count) × HasTypePart (unfolded (now rows) n) ⌝ }
     ensures { λ r. ⌜ TypePart (old rows) count n (firstOf (unfolded (old rows) n)) r ⌝ }
 {
-    let row = row_at(rows, n);
-    row.first
+    let holder = row_at(rows, n);
+    holder.first
 }
 
 // The first field cell of a struct, or 0.
@@ -154,8 +154,8 @@ pub fn fields(rows: &[u32], count: u32, n: u32) -> u32
     requires { ⌜ Table (now rows) count × (1 ≤ n) × (n ≤ count) × (kindOf (unfolded (now rows) n) ≡ structKind) ⌝ }
     ensures { λ r. ⌜ CellPart (old rows) count n fieldKind (firstOf (unfolded (old rows) n)) r ⌝ }
 {
-    let row = row_at(rows, n);
-    row.first
+    let structure = row_at(rows, n);
+    structure.first
 }
 
 // The first argument cell of a function, or 0.
@@ -163,8 +163,8 @@ pub fn arguments(rows: &[u32], count: u32, n: u32) -> u32
     requires { ⌜ Table (now rows) count × (1 ≤ n) × (n ≤ count) × (kindOf (unfolded (now rows) n) ≡ functionKind) ⌝ }
     ensures { λ r. ⌜ CellPart (old rows) count n argumentKind (secondOf (unfolded (old rows) n)) r ⌝ }
 {
-    let row = row_at(rows, n);
-    row.second
+    let function = row_at(rows, n);
+    function.second
 }
 
 // The cell after the cell n, or 0.
@@ -173,8 +173,8 @@ pub fn rest(rows: &[u32], count: u32, n: u32) -> u32
     ensures { λ r. ⌜ CellPart (old rows) count n
         (kindOf (unfolded (old rows) n)) (secondOf (unfolded (old rows) n)) r ⌝ }
 {
-    let row = row_at(rows, n);
-    row.second
+    let cell = row_at(rows, n);
+    cell.second
 }
 
 // The type of the first field of that name in a struct, or 0.
@@ -281,7 +281,7 @@ pub fn intern(
     requires { ⌜ Table (now rows) count × PartsOk (now rows) count row ⌝ }
     requires { ⌜ Indexed (now rows) count (now index) ⌝ }
     ensures { λ r. ⌜ InternPost (old rows) count row (final rows) r ⌝ }
-    ensures { λ r. ⌜ Indexed (final rows) (countAfter count r) (final index) ⌝ }
+    ensures { λ r. ⌜ final index ≡ withRows (old index) (final rows) count (countAfter count r) ⌝ }
 {
     let wanted = words_of(row);
     let below = highest_part(wanted);

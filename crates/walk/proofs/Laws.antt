@@ -11,9 +11,10 @@ use lib.ListN.{length, getD}
 use lib.Seq.{length-sets}
 use Rattle.types.specs.Ty.{Ty, member, distinctCount, parts, fixedTypes}
 use Rattle.types.specs.Table.{hasType, Table, Extends, IsType}
-use Rattle.types.proofs.Grow.{extends-refl, extends-trans, extends-unfolded, extends-type, extends-cell}
+use Rattle.types.proofs.Grow.{extends-refl, extends-trans, extends-unfolded, extends-type, extends-cell, extends-linked}
 use Rattle.types.proofs.Parts.{member-append}
 use Rattle.row_index.specs.Index.{Indexed}
+use Rattle.row_index.proofs.Additions.{rows-none}
 use Rattle.fallible.specs.declared.Error.{Error}
 use Rattle.fallible.specs.Errors.{ErrorList, errorList, pushed}
 use Rattle.fallible.proofs.Laws.{push-all-last}
@@ -111,15 +112,16 @@ good-later {work} {w = w} {w′ = w′} {st = st} {st′ = st′} g tb ix e =
 
 -- Where no row is made
 pub grew-same : {work o e w b : List ℕ} {st : State} (o′ e′ : List ℕ) (n : ℕ) → Good (lent work o e w b st) → Grew (lent work o e w b st) (lent work o′ e′ w b (counted st n))
-grew-same {work} {o} {e} {w} {st = st} o′ e′ n g =
+grew-same {work} {o} {e} {w} {b} {st} o′ e′ n g =
     let x = extends-refl w (st .rows) in
-    record { good = good-later g (g .table) (g .indexed) x; extends = x; sticky = λ p. p }
+    record { good = good-later g (g .table) (g .indexed) x; extends = x; linked = sym (rows-none b w (st .rows)); sticky = λ p. p }
 
 pub grew-then : {A B C : Lent} → Grew A B → Grew B C → Grew A C
 grew-then {A} {B} {C} a b =
     record {
       good = b .good;
       extends = extends-trans (A .rows) (B .rows) (C .rows) (A .state .rows) (B .state .rows) (C .state .rows) (a .extends) (b .extends);
+      linked = extends-linked (A .rows) (B .rows) (C .rows) (A .state .rows) (B .state .rows) (C .state .rows) (a .extends) (b .extends) (A .index) (a .linked) (b .linked);
       sticky = λ p. b .sticky (a .sticky p);
     }
 
@@ -261,7 +263,7 @@ store-last a at t =
     let n : a .steps + 0 ≡ a .steps = omega arith in
     λ i. record { stores = a .stores ++ (store at t ∷ []); errors = sym e i; met = sym m i; steps = sym n i }
 
-report-last : (a : Effect) (errors : List TypeError) → record { stores = a .stores; errors = a .errors ++ errors; met = a .met; steps = a .steps } ≡ a then reporting errors
+pub report-last : (a : Effect) (errors : List TypeError) → record { stores = a .stores; errors = a .errors ++ errors; met = a .met; steps = a .steps } ≡ a then reporting errors
 report-last a errors =
     let s = append-nil (a .stores) in
     let m = append-nil (a .met) in

@@ -13,8 +13,9 @@ use Rattle.types.specs.declared.Row.{Row}
 use Rattle.types.specs.declared.Row.the-variants.{Pointer, Array, Struct, Function, Alias, DistinctAlias, Field, Argument}
 use Rattle.types.specs.declared.Interned.{Interned}
 use Rattle.types.specs.declared.Interned.the-variants.{At, Full}
-use Rattle.row_index.specs.Index.{Indexed}
-use Rattle.types.proofs.Grow.{extends-refl}
+use Rattle.row_index.specs.Index.{Indexed, withRows}
+use Rattle.row_index.proofs.Additions.{rows-none}
+use Rattle.types.proofs.Grow.{extends-refl, extends-indexed}
 use Rattle.types.proofs.Fixed.{fixed-is}
 use Rattle.types.proofs.Count.{rows-exceeded}
 use Rattle.types.proofs.Parts.{member-append, met-members}
@@ -69,7 +70,7 @@ module _ (w : List ℕ) (b : List ℕ) (st : State) (row : Row) (tb : Table w (s
   type-needed before =
       sym (type-added before type) ∙ member-append type (parts type) (needed before) ∙ ap (λ (b : Bool). b || member type (needed before)) (own-part row (unfolded w))
 
-  module _ (w′ : List ℕ) {b′ : List ℕ} (n c : ℕ) (a : Added w (st .rows) type w′ n c) (ix : Indexed w′ c b′) (sort : Sort w′ c row n) (work o e : List ℕ) (g : Good (lent work o e w b st)) where
+  module _ (w′ : List ℕ) {b′ : List ℕ} (n c : ℕ) (a : Added w (st .rows) type w′ n c) (ix : b′ ≡ withRows b w′ (st .rows) c) (sort : Sort w′ c row n) (work o e : List ℕ) (g : Good (lent work o e w b st)) where
     row-does : Does (meeting (type ∷ []) 1) (lent work o e w b st) (lent work o e w′ b′ (state (st .errors) c (st .full)))
     unfolding needed
     row-does =
@@ -92,13 +93,18 @@ module _ (w : List ℕ) (b : List ℕ) (st : State) (row : Row) (tb : Table w (s
     row-made : Made row (lent work o e w b st) (lent work o e w′ b′ (state (st .errors) c (st .full))) n
     row-made =
         record {
-          grew = record { good = good-later g (a .table) ix (a .extends); extends = a .extends; sticky = λ p. p };
+          grew = record {
+            good = good-later g (a .table) (extends-indexed w w′ (st .rows) c (a .extends) (g .indexed) ix) (a .extends);
+            extends = a .extends;
+            linked = ix;
+            sticky = λ p. p;
+          };
           sort = sort;
           type = λ p. a .type;
           does = row-does;
         }
 
-  module _ (w′ : List ℕ) {b′ : List ℕ} (a : NoRoom w (st .rows) type w′) (ix : Indexed w′ (st .rows) b′) (work o e : List ℕ) (g : Good (lent work o e w b st)) where
+  module _ (w′ : List ℕ) {b′ : List ℕ} (a : NoRoom w (st .rows) type w′) (ix : b′ ≡ withRows b w′ (st .rows) (st .rows)) (work o e : List ℕ) (g : Good (lent work o e w b st)) where
     lack : {o₀ e₀ : List ℕ} (before : Effect) (x : Bool) → st .full ≡ x → Represents o₀ e₀ (lent work o e w b st) before → TooMany (length w) (before then meeting (type ∷ []) 1)
     lack before true q h = too-many-then (length w) before (meeting (type ∷ []) 1) (h .lacks q)
     lack before false q h =
@@ -109,22 +115,32 @@ module _ (w : List ℕ) (b : List ℕ) (st : State) (row : Row) (tb : Table w (s
 
     full-made : Made row (lent work o e w b st) (lent work o e w′ b′ (state (st .errors) (st .rows) true)) (substituteFor row)
     full-made =
-        subst (λ (x : List ℕ). Made row (lent work o e w b st) (lent work o e x b′ (state (st .errors) (st .rows) true)) (substituteFor row)) (sym (a .kept))
+        let same = ix ∙ rows-none b w′ (st .rows) in
+        subst (λ (x : List ℕ). Made row (lent work o e w b st) (lent work o e w′ x (state (st .errors) (st .rows) true)) (substituteFor row)) (sym same)
+        (subst (λ (x : List ℕ). Made row (lent work o e w b st) (lent work o e x b (state (st .errors) (st .rows) true)) (substituteFor row)) (sym (a .kept))
         (record {
-          grew = record { good = good-later g tb (subst (λ (x : List ℕ). Indexed x (st .rows) b′) (a .kept) ix) (extends-refl w (st .rows)); extends = extends-refl w (st .rows); sticky = λ p. refl };
+          grew = record {
+            good = good-later g tb (g .indexed) (extends-refl w (st .rows));
+            extends = extends-refl w (st .rows);
+            linked = sym (rows-none b w (st .rows));
+            sticky = λ p. refl;
+          };
           sort = substitute-sort w (st .rows) tb row;
           type = λ p. both refl p;
           does = record { does = λ o₀ e₀ before h. record { fits = λ p. both refl p; lacks = λ p. lack before (st .full) refl h } };
-        })
+        }))
 
-  pub make-at : (w′ b′ : List ℕ) (i : Interned) (n c : ℕ) → InternPost w (st .rows) row w′ i → Indexed w′ (countAfter (st .rows) i) b′ → i ≡ At n c → Makes row w b st w′ b′ (record { ty = n; state = state (st .errors) c (st .full) })
+  pub make-at : (w′ b′ : List ℕ) (i : Interned) (n c : ℕ) → InternPost w (st .rows) row w′ i → b′ ≡ withRows b w′ (st .rows) (countAfter (st .rows) i) → i ≡ At n c
+      → Makes row w b st w′ b′ (record { ty = n; state = state (st .errors) c (st .full) })
   make-at w′ b′ i n c h ix q =
       let a = subst (InternPost w (st .rows) row w′) q h in
-      let later = subst (λ (x : Interned). Indexed w′ (countAfter (st .rows) x) b′) q ix in
-      record { answer = At n c; interned = a; result = refl; made = λ work o e g. row-made w′ n c (a .0) later (a .1) work o e g }
+      let later = subst (λ (x : Interned). b′ ≡ withRows b w′ (st .rows) (countAfter (st .rows) x)) q ix in
+      record { answer = At n c; interned = a; result = refl; linked = later; made = λ work o e g. row-made w′ n c (a .0) later (a .1) work o e g }
 
-  pub make-full : (w′ b′ : List ℕ) (i : Interned) (n : ℕ) → InternPost w (st .rows) row w′ i → Indexed w′ (countAfter (st .rows) i) b′ → i ≡ Full → n ≡ substituteFor row → Makes row w b st w′ b′ (record { ty = n; state = state (st .errors) (st .rows) true })
+  pub make-full : (w′ b′ : List ℕ) (i : Interned) (n : ℕ) → InternPost w (st .rows) row w′ i → b′ ≡ withRows b w′ (st .rows) (countAfter (st .rows) i) → i ≡ Full
+      → n ≡ substituteFor row → Makes row w b st w′ b′ (record { ty = n; state = state (st .errors) (st .rows) true })
   make-full w′ b′ i n h ix q s =
       let a = subst (InternPost w (st .rows) row w′) q h in
-      let later = subst (λ (x : Interned). Indexed w′ (countAfter (st .rows) x) b′) q ix in
-      subst (λ (x : ℕ). Makes row w b st w′ b′ (record { ty = x; state = state (st .errors) (st .rows) true })) (sym s) (record { answer = Full; interned = a; result = refl; made = λ work o e g. full-made w′ a later work o e g })
+      let later = subst (λ (x : Interned). b′ ≡ withRows b w′ (st .rows) (countAfter (st .rows) x)) q ix in
+      subst (λ (x : ℕ). Makes row w b st w′ b′ (record { ty = x; state = state (st .errors) (st .rows) true })) (sym s)
+      (record { answer = Full; interned = a; result = refl; linked = later; made = λ work o e g. full-made w′ a later work o e g })

@@ -11,6 +11,7 @@ use lib.Seq.{getD-set-same, getD-set-other}
 use borrow.Author.Tests.{eq-eqb, eqb-true, eqb-false}
 use Rattle.types.specs.Ty.{Ty}
 use Rattle.types.proofs.Grow.{extends-refl}
+use Rattle.row_index.proofs.Additions.{rows-none}
 use Rattle.meaning.specs.Context.{TypeMap, entry, insert, Context, context, blank}
 use Rattle.meaning.specs.Statement.{withLocal}
 use Rattle.meaning.proofs.Maps.{insert-other}
@@ -47,7 +48,7 @@ module _ {work o e w b : List ℕ} {st : State} (name which v : ℕ) (l : wordPl
       word i false q = subst (WordOk w (st .rows)) (sym (getD-set-other work (wordPlace name which) i v 0 (eqb-false i (wordPlace name which) q))) (g .words i)
 
   pub grew-set : Good (lent work o e w b st) → WordOk w (st .rows) v → Grew (lent work o e w b st) (lent (set work (wordPlace name which) v) o e w b st)
-  grew-set g ok = record { good = good-set g ok; extends = extends-refl w (st .rows); sticky = λ p. p }
+  grew-set g ok = record { good = good-set g ok; extends = extends-refl w (st .rows); linked = sym (rows-none b w (st .rows)); sticky = λ p. p }
 
   -- What a word holds after it was set to what the new context has there
   pub scope-set : (ctx ctx′ : Context) → which < 4 → ((n k : ℕ) → ((n ≡ name) × (k ≡ which) → ⊥) → mapAt ctx′ k n ≡ mapAt ctx k n)

@@ -11,10 +11,12 @@ use Rattle.types.specs.declared.Row.the-variants.{Pointer, Array, Struct, Funct
 use Rattle.types.specs.declared.Row.the-variants.{Argument}
 use Rattle.types.specs.declared.Interned.{Interned}
 use Rattle.types.specs.declared.Interned.the-variants.{At, Full}
+use Rattle.row_index.specs.Index.{withRows}
 use Rattle.fallible.specs.declared.Error.{Error}
 use Rattle.fallible.specs.Errors.{errorList, pushed}
 use Rattle.walk.specs.Effect.{Effect, meeting}
-use Rattle.walk.specs.Represents.{Lent, lent, Good, Grew, Frame, Does, Typing}
+use Rattle.meaning.specs.TypeError.{TypeError}
+use Rattle.walk.specs.Represents.{Lent, lent, Good, Grew, Frame, Told, Does, Typing}
 use Rattle.walk.specs.declared.State.{State}
 use Rattle.walk.specs.declared.Typed.{Typed}
 
@@ -46,6 +48,7 @@ pub record Makes (row : Row) (rows index : List ℕ) (state : State) (rows′ in
   pub answer : Interned
   pub interned : InternPost rows (state .rows) row rows′ answer
   pub result : r ≡ resultOf row state answer
+  pub linked : index′ ≡ withRows index rows′ (state .rows) (r .state .rows)
   pub made : (work output errors : List ℕ) → Good (lent work output errors rows index state)
       → Made row (lent work output errors rows index state) (lent work output errors rows′ index′ (r .state)) (r .ty)
 
@@ -56,6 +59,11 @@ counted state errors = record { errors = errors; rows = state .rows; full = stat
 -- The error is pushed, and counted in the state
 pub record Reported (errors : List ℕ) (state : State) (error : Error) (errors′ : List ℕ) (state′ : State) : Type 0 where
   pub list : errorList errors′ (state′ .errors) ≡ pushed (errorList errors (state .errors)) error
+  pub rest : state′ ≡ counted state (state′ .errors)
+
+-- The errors are told in words, with or without room: each by rows that show its types. Of the state only their count is another
+pub record Tells (rows : List ℕ) (told : List TypeError) (errors : List ℕ) (state : State) (errors′ : List ℕ) (state′ : State) : Type 0 where
+  pub list : Told rows (state .rows) told (errorList errors (state .errors)) (errorList errors′ (state′ .errors))
   pub rest : state′ ≡ counted state (state′ .errors)
 
 -- A walk over the bytes from `from` to `to`: for whatever is given, C goes to C′ with its effect

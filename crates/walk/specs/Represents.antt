@@ -9,7 +9,7 @@
 --
 --   word          what it says
 --   Good C        the rows obey the rules, the index is theirs, each working word is 0 or a type row: with or without room
---   Grew C C′     C′ is good, its rows are those of C and more, a lack of room is not forgotten
+--   Grew C C′     C′ is good, its rows are those of C and more, each new one in the index, a lack of room is not forgotten
 --   Frame         of the output only the bytes of the record may differ
 --   Stands        the rows are exactly the types needed; the slots are Stored; the errors are Told
 --   Shows         a row number shows a type. Spells: an error's words spell an error of the meaning
@@ -17,8 +17,8 @@
 --   Does          whatever C stands for, C′ stands for that and then this effect
 --   Typing        a row number shows a type, if there was room
 --   Scope         the working words hold a context, if there was room
---   Makes, Reported, Walked, WalkedTo (Post.antt): one row made; one error reported; a walk: Grew, Frame and Does for whatever context is
---                 held; a walk that ends in a row number, which shows a type
+--   Makes, Reported, Tells, Walked, WalkedTo (Post.antt): one row made; one error reported; errors told in words; a walk: Grew, Frame and
+--                 Does for whatever context is held; a walk that ends in a row number, which shows a type
 use Prim.Native.Nat.{ℕ, _+_, _*_, _^_, _≤_, _<_}
 use mathlib.Core.Path.{_≡_}
 use mathlib.Core.Bool.{true, false}
@@ -28,7 +28,7 @@ use mathlib.Core.Option.{Option, none, some}
 use lib.ListN.{length, getD}
 use Rattle.types.specs.Ty.{Ty, member, distinctCount}
 use Rattle.types.specs.Table.{rowWidth, fixedCount, unfolded, hasType, Table, Extends, IsType, IsCell}
-use Rattle.row_index.specs.Index.{Indexed}
+use Rattle.row_index.specs.Index.{Indexed, withRows}
 use Rattle.fallible.specs.declared.Error.{Error}
 use Rattle.fallible.specs.Errors.{ErrorList, errorList, pushAll}
 use Rattle.fallible.specs.Operands.{isTypeOperand}
@@ -63,10 +63,12 @@ pub record Good (C : Lent) : Type 0 where
   pub indexed : Indexed (C .rows) (C .state .rows) (C .index)
   pub words : (i : ℕ) → WordOk (C .rows) (C .state .rows) (getD (C .work) i 0)
 
--- From C to C′ the table obeys the rules and only grows, and a lack of room is not forgotten
+-- From C to C′ the table obeys the rules and only grows, the new rows come into the index one after the other, and a lack of room is not
+-- forgotten
 pub record Grew (C C′ : Lent) : Type 0 where
   pub good : Good C′
   pub extends : Extends (C .rows) (C .state .rows) (C′ .rows) (C′ .state .rows)
+  pub linked : C′ .index ≡ withRows (C .index) (C′ .rows) (C .state .rows) (C′ .state .rows)
   pub sticky : C .state .full ≡ true → C′ .state .full ≡ true
 
 -- The output is as long, and as it was outside of the bytes from `from` to `to`

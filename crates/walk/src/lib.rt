@@ -112,7 +112,8 @@ pub fn word_of(work: &[u32], name: u32, which: usize) -> u32
     requires { ⌜ wordPlace name which < length (now work) ⌝ }
     ensures { λ r. ⌜ r ≡ getD (old work) (wordPlace name which) 0 ⌝ }
 {
-    work[WORK_WIDTH * (name as usize) + which]
+    let place = WORK_WIDTH * (name as usize) + which;
+    work[place]
 }
 
 // Sets the working word of a name.

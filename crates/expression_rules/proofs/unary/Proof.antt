@@ -22,44 +22,41 @@ boolean-not-requires c κs = search needs
 same-length : tie.Need-same-length
 same-length c = search needs
 
-same-length-2 : tie.Need-same-length-2
-same-length-2 c = search needs
-
 returns : tie.Need-returns
 returns c = search exits.pointer-as
+
+same-length-2 : tie.Need-same-length-2
+same-length-2 c = search needs
 
 same-length-3 : tie.Need-same-length-3
 same-length-3 c = search needs
 
+returns-2 : tie.Need-returns-2
+returns-2 c = search exits.dereference-as
+
 same-length-4 : tie.Need-same-length-4
 same-length-4 c = search needs
-
-returns-2 : tie.Need-returns-2
-returns-2 c = search exits.unary-as
 
 same-length-5 : tie.Need-same-length-5
 same-length-5 c = search needs
 
+returns-3 : tie.Need-returns-3
+returns-3 c = search exits.field-as
+
 same-length-6 : tie.Need-same-length-6
 same-length-6 c = search needs
-
-returns-3 : tie.Need-returns-3
-returns-3 c = search exits.unary-as
 
 same-length-7 : tie.Need-same-length-7
 same-length-7 c = search needs
 
+returns-4 : tie.Need-returns-4
+returns-4 c = search exits.bits-as
+
 same-length-8 : tie.Need-same-length-8
 same-length-8 c = search needs
 
-returns-4 : tie.Need-returns-4
-returns-4 c = search exits.unary-as
-
 same-length-9 : tie.Need-same-length-9
 same-length-9 c = search needs
-
-same-length-10 : tie.Need-same-length-10
-same-length-10 c = search needs
 
 returns-5 : tie.Need-returns-5
 returns-5 c = search exits.unary-other
@@ -74,17 +71,16 @@ unary-spec =
     bitwise-not-requires
     boolean-not-requires
     same-length
-    same-length-2
     returns
+    same-length-2
     same-length-3
-    same-length-4
     returns-2
+    same-length-4
     same-length-5
-    same-length-6
     returns-3
+    same-length-6
     same-length-7
-    same-length-8
     returns-4
+    same-length-8
     same-length-9
-    same-length-10
     returns-5)

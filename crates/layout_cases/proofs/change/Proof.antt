@@ -11,6 +11,9 @@ read-number-requires c κs = search needs
 read-byte-requires : tie.Need-read-byte-requires
 read-byte-requires c κs = search needs
 
+returns : tie.Need-returns
+returns c = search needs
+
 slice-read-old : tie.Need-slice-read-old
 slice-read-old c = search needs
 
@@ -26,9 +29,6 @@ slice-write-base-2 c = search needs
 same-length : tie.Need-same-length
 same-length c = search needs
 
-returns : tie.Need-returns
-returns c = search needs
-
 returns-2 : tie.Need-returns-2
 returns-2 c = search needs
 
@@ -38,10 +38,10 @@ change-spec =
     (tie.spec
     read-number-requires
     read-byte-requires
+    returns
     slice-read-old
     slice-write-base
     judge-requires
     slice-write-base-2
     same-length
-    returns
     returns-2)

@@ -20,20 +20,11 @@ judge-names-requires c κs = search needs
 enum-told-2 : tie.Need-enum-told-2
 enum-told-2 c = search needs
 
-print-refused-requires : tie.Need-print-refused-requires
-print-refused-requires c κs = search needs
-
 enum-known-layout : tie.Need-enum-known-layout
 enum-known-layout c = search needs
 
-print-refused-requires-2 : tie.Need-print-refused-requires-2
-print-refused-requires-2 c κs = search needs
-
 enum-known-layout-2 : tie.Need-enum-known-layout-2
 enum-known-layout-2 c = search needs
-
-print-refused-requires-3 : tie.Need-print-refused-requires-3
-print-refused-requires-3 c κs = search needs
 
 returns : tie.Need-returns
 returns c = search needs
@@ -56,11 +47,8 @@ judge-spec =
     enum-told
     judge-names-requires
     enum-told-2
-    print-refused-requires
     enum-known-layout
-    print-refused-requires-2
     enum-known-layout-2
-    print-refused-requires-3
     returns
     returns-2
     returns-3

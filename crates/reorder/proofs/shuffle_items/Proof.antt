@@ -1,12 +1,11 @@
 -- `shuffle_items` meets its contract. Assumes nothing.
-use mathlib.Core.Path.{refl}
 use Rattle.reorder.proofs.Outcomes as laws
 use borrow.Author.Needs.{needs}
 use Rattle.reorder.proofs.shuffle_items.Statement.{statement}
 use Rattle.reorder.proofs.shuffle_items.Tie as tie
 
 returns : tie.Need-returns
-returns c = (search laws.short-output, refl)
+returns c = search laws.short-output
 
 slice-aggregate-write-items : tie.Need-slice-aggregate-write-items
 slice-aggregate-write-items c = search needs
@@ -18,7 +17,7 @@ same-length : tie.Need-same-length
 same-length c = search needs
 
 returns-2 : tie.Need-returns-2
-returns-2 c = (search laws.no-refusal, search needs)
+returns-2 c = search laws.all-written
 
 pub shuffle-items-spec : {M : Type 1} → statement M
 shuffle-items-spec =

@@ -7,13 +7,13 @@ use Rattle.replay.proofs.main.Statement.{statement}
 use Rattle.replay.proofs.main.Tie as tie
 
 abbrev Inv-loop : tie.InvT-loop
-Inv-loop case₀ output₀ rows₀ errors₀ work₀ tally₀ k₀ case output rows errors work tally k = (length case ≡ 250000) × (length output ≡ 70000) × (length rows ≡ 12000) × (length errors ≡ 14000) × (length work ≡ 16376) × (tally .good ≤ k) × (tally .refused ≤ k) × (tally .differ ≤ k)
+Inv-loop case₀ output₀ rows₀ errors₀ work₀ buffer₀ held₀ tally₀ k₀ case output rows errors work buffer held tally k = (length case ≡ 250000) × (length output ≡ 70000) × (length rows ≡ 12000) × (length errors ≡ 14000) × (length work ≡ 16376) × (length buffer ≡ 65536) × (tally .good ≤ k) × (tally .refused ≤ k) × (tally .differ ≤ k)
 
 abbrev μ-loop : tie.MeasureT-loop
-μ-loop case₀ output₀ rows₀ errors₀ work₀ tally₀ k₀ case output rows errors work tally k = 1000000 - k
+μ-loop case₀ output₀ rows₀ errors₀ work₀ buffer₀ held₀ tally₀ k₀ case output rows errors work buffer held tally k = 1000000 - k
 
 loop-holds : tie.Need-loop-holds Inv-loop μ-loop
-loop-holds c = (search needs, search needs, search needs, search needs, search needs, search needs, search needs, search needs)
+loop-holds c = (search needs, search needs, search needs, search needs, search needs, search needs, search needs, search needs, search needs)
 
 slice-aggregate-read-case : tie.Need-slice-aggregate-read-case Inv-loop μ-loop
 slice-aggregate-read-case c = search needs
@@ -45,6 +45,12 @@ slice-aggregate-judge-4 c = search needs
 judge-requires : tie.Need-judge-requires Inv-loop μ-loop
 judge-requires c κs = search needs
 
+slice-aggregate-put-difference : tie.Need-slice-aggregate-put-difference Inv-loop μ-loop
+slice-aggregate-put-difference c = search needs
+
+put-difference-requires : tie.Need-put-difference-requires Inv-loop μ-loop
+put-difference-requires c κs = search needs
+
 count-requires : tie.Need-count-requires Inv-loop μ-loop
 count-requires c κs = search needs
 
@@ -55,10 +61,19 @@ loop-less : tie.Need-loop-less Inv-loop μ-loop
 loop-less c = search needs
 
 loop-again : tie.Need-loop-again Inv-loop μ-loop
-loop-again c = (search needs, search needs, search needs, search needs, search needs, search needs, search needs, search needs)
+loop-again c = (search needs, search needs, search needs, search needs, search needs, search needs, search needs, search needs, search needs)
 
-print-tally-requires : tie.Need-print-tally-requires Inv-loop μ-loop
-print-tally-requires c κs = search needs
+slice-aggregate-put-tally : tie.Need-slice-aggregate-put-tally Inv-loop μ-loop
+slice-aggregate-put-tally c = search needs
+
+put-tally-requires : tie.Need-put-tally-requires Inv-loop μ-loop
+put-tally-requires c κs = search needs
+
+slice-aggregate-flush : tie.Need-slice-aggregate-flush Inv-loop μ-loop
+slice-aggregate-flush c = search needs
+
+flush-requires : tie.Need-flush-requires Inv-loop μ-loop
+flush-requires c κs = search needs
 
 returns : tie.Need-returns Inv-loop μ-loop
 returns c = search needs
@@ -80,9 +95,14 @@ main-spec =
     slice-aggregate-judge-3
     slice-aggregate-judge-4
     judge-requires
+    slice-aggregate-put-difference
+    put-difference-requires
     count-requires
     add-k
     loop-less
     loop-again
-    print-tally-requires
+    slice-aggregate-put-tally
+    put-tally-requires
+    slice-aggregate-flush
+    flush-requires
     returns)

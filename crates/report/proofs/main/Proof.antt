@@ -1,5 +1,6 @@
 -- `main` is safe: an accepted module has no more errors than the list has records. Assumes nothing.
 use Rattle.records.proofs.Promise as promise
+use Rattle.report.proofs.LineLaws as laws
 use borrow.Author.Needs.{needs}
 use Rattle.report.proofs.main.Statement.{statement}
 use Rattle.report.proofs.main.Tie as tie
@@ -40,11 +41,8 @@ print-refused-requires c κs = search needs
 enum-known-answer-2 : tie.Need-enum-known-answer-2
 enum-known-answer-2 c = search needs
 
-print-counts-requires : tie.Need-print-counts-requires
-print-counts-requires c κs = search needs
-
-print-errors-requires : tie.Need-print-errors-requires
-print-errors-requires c κs = search promise.errors-fit
+print-accepted-requires : tie.Need-print-accepted-requires
+print-accepted-requires c κs = (search promise.errors-fit, search laws.errors-there)
 
 returns : tie.Need-returns
 returns c = search needs
@@ -68,7 +66,6 @@ main-spec =
     enum-known-answer
     print-refused-requires
     enum-known-answer-2
-    print-counts-requires
-    print-errors-requires
+    print-accepted-requires
     returns
     returns-2)

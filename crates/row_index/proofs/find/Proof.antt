@@ -8,7 +8,7 @@ follow-requires : tie.Need-follow-requires
 follow-requires c κs = search needs
 
 returns : tie.Need-returns
-returns c = search needs
+returns c = laws.found-followed (c .before .before .before .pre .1 .2) (c .before .follow .ensures) (c .if1 .taken)
 
 returns-2 : tie.Need-returns-2
 returns-2 c = laws.found-none (c .before .before .follow .ensures) (c .before .if1 .left) (c .if2 .taken)

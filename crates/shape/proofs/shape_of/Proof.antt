@@ -37,6 +37,9 @@ type-shape-requires c κs = search needs
 expression-shape-requires : tie.Need-expression-shape-requires
 expression-shape-requires c κs = search needs
 
+returns : tie.Need-returns
+returns c = search needs
+
 operator-shape-requires : tie.Need-operator-shape-requires
 operator-shape-requires c κs = search needs
 
@@ -49,40 +52,37 @@ item-shape-requires c κs = search needs
 no-field-requires-6 : tie.Need-no-field-requires-6
 no-field-requires-6 c κs = search needs
 
-returns : tie.Need-returns
-unfolding shapeOf
-returns c = shaped _ 1 (c .before .match .keys1) (c .no-field .ensures)
-
 returns-2 : tie.Need-returns-2
 unfolding shapeOf
-returns-2 c = shaped _ 2 (c .before .match .keys2) (c .no-field2 .ensures)
+returns-2 c = shaped _ 1 (c .before .match .keys1) (c .no-field .ensures)
 
 returns-3 : tie.Need-returns-3
 unfolding shapeOf
-returns-3 c = shaped _ 3 (c .before .match .keys3) (c .no-field3 .ensures)
+returns-3 c = shaped _ 2 (c .before .match .keys2) (c .no-field2 .ensures)
 
 returns-4 : tie.Need-returns-4
 unfolding shapeOf
-returns-4 c = shaped _ 21 (c .before .match .keys4) (c .one-field .ensures)
+returns-4 c = shaped _ 3 (c .before .match .keys3) (c .no-field3 .ensures)
 
 returns-5 : tie.Need-returns-5
 unfolding shapeOf
-returns-5 c = shaped _ 48 (c .before .match .keys5) (c .no-field4 .ensures)
+returns-5 c = shaped _ 21 (c .before .match .keys4) (c .one-field .ensures)
 
 returns-6 : tie.Need-returns-6
 unfolding shapeOf
-returns-6 c = shaped _ 49 (c .before .match .keys6) (c .no-field5 .ensures)
+returns-6 c = shaped _ 48 (c .before .match .keys5) (c .no-field4 .ensures)
 
 returns-7 : tie.Need-returns-7
 unfolding shapeOf
-returns-7 c = shaped _ 50 (c .before .match .keys7) (c .one-field2 .ensures)
+returns-7 c = shaped _ 49 (c .before .match .keys6) (c .no-field5 .ensures)
 
 returns-8 : tie.Need-returns-8
 unfolding shapeOf
-returns-8 c = shaped _ 85 (c .before .match .keys8) (c .one-field3 .ensures)
+returns-8 c = shaped _ 50 (c .before .match .keys7) (c .one-field2 .ensures)
 
 returns-9 : tie.Need-returns-9
-returns-9 c = search needs
+unfolding shapeOf
+returns-9 c = shaped _ 85 (c .before .match .keys8) (c .one-field3 .ensures)
 
 returns-10 : tie.Need-returns-10
 returns-10 c = search needs
@@ -124,11 +124,11 @@ shape-of-spec =
     one-field-requires-3
     type-shape-requires
     expression-shape-requires
+    returns
     operator-shape-requires
     statement-shape-requires
     item-shape-requires
     no-field-requires-6
-    returns
     returns-2
     returns-3
     returns-4

@@ -5,7 +5,7 @@ use borrow.Author.Needs.{needs}
 use Rattle.type_check.proofs.both_passes.Statement.{statement}
 use Rattle.type_check.proofs.both_passes.Tie as tie
 use mathlib.Core.Path.{refl}
-use Rattle.row_index.proofs.Index as index
+use Rattle.row_index.proofs.Additions as index
 
 returns : tie.Need-returns
 returns c = ending.no-room _ _ _ _ _ (c .if1 .taken)
@@ -14,7 +14,7 @@ put-fixed-rows-requires : tie.Need-put-fixed-rows-requires
 put-fixed-rows-requires c κs = search needs
 
 link-all-requires : tie.Need-link-all-requires
-link-all-requires c κs = (c .before .before .before .before .before .put-fixed-rows .ensures .table .room, index.indexed-none _ _ refl)
+link-all-requires c κs = c .before .before .before .before .before .put-fixed-rows .ensures .table .room
 
 built-ins-requires : tie.Need-built-ins-requires
 built-ins-requires c κs = search needs
@@ -26,7 +26,7 @@ add-from : tie.Need-add-from
 add-from c = search needs
 
 declare-items-requires : tie.Need-declare-items-requires
-declare-items-requires c κs = (ending.items-list (c .before .before .before .before .before .before .before .before .before .before .before .before .before .before .before .before .before .before .before .before .before .pre .0) (c .before .before .before .before .before .length-at .ensures .is), ending.first-ready (c .before .before .before .before .before .before .before .before .before .before .before .before .before .before .before .before .before .before .before .before .before .pre .0) (c .before .before .before .before .before .before .before .before .before .before .before .before .before .before .before .before .before .before .before .before .before .pre .1 .1) (c .before .before .before .before .before .before .before .before .before .before .before .before .before .put-fixed-rows .ensures) (c .before .before .before .before .before .before .before .link-all .ensures))
+declare-items-requires c κs = (ending.items-list (c .before .before .before .before .before .before .before .before .before .before .before .before .before .before .before .before .before .before .before .before .before .pre .0) (c .before .before .before .before .before .length-at .ensures .is), ending.first-ready (c .before .before .before .before .before .before .before .before .before .before .before .before .before .before .before .before .before .before .before .before .before .pre .0) (c .before .before .before .before .before .before .before .before .before .before .before .before .before .before .before .before .before .before .before .before .before .pre .1 .1) (c .before .before .before .before .before .before .before .before .before .before .before .before .before .put-fixed-rows .ensures) (index.indexed-all _ _ _ (c .before .before .before .before .before .before .before .link-all .ensures)))
 
 type-check-items-requires : tie.Need-type-check-items-requires
 type-check-items-requires c κs = (ending.items-list (c .before .before .before .before .before .before .before .before .before .before .before .before .before .before .before .before .before .before .before .before .before .before .before .before .before .before .before .before .before .before .before .before .before .before .pre .0) (c .before .before .before .before .before .before .before .before .before .before .before .before .before .before .before .before .before .before .length-at .ensures .is), ending.second-ready (c .before .before .before .before .before .before .before .before .before .before .before .before .before .before .before .before .before .before .before .before .before .before .before .before .before .before .before .before .before .before .before .before .before .before .pre .0) (c .before .before .before .before .before .before .before .before .before .before .before .before .declare-items .ensures))

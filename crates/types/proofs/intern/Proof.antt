@@ -2,6 +2,8 @@
 use denote.Ref.{now}
 use mathlib.Core.Logic.{inl, inr}
 use native.Mathlib.Omega.{arith}
+use mathlib.Core.Path.{sym}
+use Rattle.row_index.proofs.Additions.{rows-none}
 use Rattle.types.proofs.Requests as requests
 use borrow.Author.Needs.{needs}
 use Rattle.types.proofs.intern.Statement.{statement}
@@ -14,7 +16,7 @@ highest-part-requires : tie.Need-highest-part-requires
 highest-part-requires c κs = search needs
 
 find-requires : tie.Need-find-requires
-find-requires c κs = (c .before .before .before .before .before .pre .1, (requests.intern-from _ _ (c .before .before .before .before .before .args .row) (c .before .before .before .before .before .pre .0 .1) _ (c .before .before .before .words-of .ensures) _ (c .before .before .highest-part .ensures), search needs))
+find-requires c κs = (c .before .before .before .before .before .pre .1, (requests.intern-from _ _ (c .before .before .before .before .before .args .row) (c .before .before .before .before .before .pre .0 .1) _ (c .before .before .before .words-of .ensures) _ (c .before .before .highest-part .ensures), search needs, c .before .before .before .before .before .pre .0 .0 .distinct))
 
 -- what is known after the search
 sought : (c : tie.After-find)
@@ -33,7 +35,7 @@ same-length : tie.Need-same-length
 same-length c = search needs
 
 returns : tie.Need-returns
-returns c = (requests.intern-found (sought (c .before)) (c .if1 .taken), c .before .before .before .before .before .before .before .pre .1)
+returns c = (requests.intern-found (sought (c .before)) (c .if1 .taken), sym (rows-none _ _ _))
 
 add-if2 : tie.Need-add-if2
 add-if2 c = search needs
@@ -45,13 +47,13 @@ same-length-2 : tie.Need-same-length-2
 same-length-2 c = search needs
 
 returns-2 : tie.Need-returns-2
-returns-2 c = (requests.intern-full (sought (c .before .before)) (c .before .if1 .left) (inl (c .if2 .taken)), c .before .before .before .before .before .before .before .before .pre .1)
+returns-2 c = (requests.intern-full (sought (c .before .before)) (c .before .if1 .left) (inl (c .if2 .taken)), sym (rows-none _ _ _))
 
 same-length-3 : tie.Need-same-length-3
 same-length-3 c = search needs
 
 returns-3 : tie.Need-returns-3
-returns-3 c = (requests.intern-full (sought (c .before .before .before)) (c .before .before .if1 .left) (inr (omega arith)), c .before .before .before .before .before .before .before .before .before .pre .1)
+returns-3 c = (requests.intern-full (sought (c .before .before .before)) (c .before .before .if1 .left) (inr (omega arith)), sym (rows-none _ _ _))
 
 store-requires : tie.Need-store-requires
 store-requires c κs = search needs
@@ -77,7 +79,7 @@ returns-4 c =
     let room = c .before .before .before .before .before .before .before .if2 .left in
     let new = c .before .before .before .before .store .ensures in (
       requests.intern-new (sought after) (c .before .before .before .before .before .before .before .before .if1 .left) (search needs) room new,
-      requests.intern-indexed (sought after) room new (after .before .before .before .before .before .before .pre .1) (c .link .ensures),
+      requests.intern-linked (sought after) room new _ (c .link .ensures),
     )
 
 pub intern-spec : {M : Type 1} → statement M

@@ -11,6 +11,9 @@ Inv-loop input output expected numbers at₀ i₀ at i = (at ≤ length input) �
 abbrev μ-loop : tie.MeasureT-loop
 μ-loop input output expected numbers at₀ i₀ at i = length input - at
 
+returns : tie.Need-returns Inv-loop μ-loop
+returns c = search needs
+
 loop-holds : tie.Need-loop-holds Inv-loop μ-loop
 loop-holds c = search needs
 
@@ -44,8 +47,8 @@ part-record-matches-end-2 c = search needs
 record-matches-requires : tie.Need-record-matches-requires Inv-loop μ-loop
 record-matches-requires c κs = search needs
 
-returns : tie.Need-returns Inv-loop μ-loop
-returns c = search needs
+returns-2 : tie.Need-returns-2 Inv-loop μ-loop
+returns-2 c = search needs
 
 slot-count-requires : tie.Need-slot-count-requires Inv-loop μ-loop
 slot-count-requires c κs = search needs
@@ -59,8 +62,8 @@ loop-less c = search needs
 loop-again : tie.Need-loop-again Inv-loop μ-loop
 loop-again c = search needs
 
-returns-2 : tie.Need-returns-2 Inv-loop μ-loop
-returns-2 c = search needs
+returns-3 : tie.Need-returns-3 Inv-loop μ-loop
+returns-3 c = search needs
 
 pub output-matches-spec : {M : Type 1} → statement M
 output-matches-spec =
@@ -68,6 +71,7 @@ output-matches-spec =
     (tie.spec
     Inv-loop
     μ-loop
+    returns
     loop-holds
     next-record-requires
     word-of-requires
@@ -79,9 +83,9 @@ output-matches-spec =
     part-record-matches-start-2
     part-record-matches-end-2
     record-matches-requires
-    returns
+    returns-2
     slot-count-requires
     add-i
     loop-less
     loop-again
-    returns-2)
+    returns-3)

@@ -1,0 +1,68 @@
+// A case is a list of words, least byte first: its length in bytes; the length of the module; the bytes of output, the
+// words of rows, of errors and of work that are lent; the number and the place of the refusal, or 0 and 0; how many
+// rows, errors and slots there are, and names whose working words are cleared. Then come the module; the rows in any
+// numbering from 1; the errors, and the row of each slot in byte order, by that numbering.
+use crate::expected::word_of;
+use fallible::ERROR_WIDTH;
+use rows::ROW_WIDTH;
+ghost use Prim.Native.Nat.{_<_, _≤_, _^_};
+
+// The bytes of the words before the module, and the places of these words.
+pub const HEAD: usize = 48;
+
+pub const TOTAL: usize = 0;
+
+pub const MODULE: usize = 1;
+
+pub const OUTPUT: usize = 2;
+
+pub const ROWS: usize = 3;
+
+pub const ERRORS: usize = 4;
+
+pub const WORK: usize = 5;
+
+pub const NUMBER: usize = 6;
+
+pub const PLACE: usize = 7;
+
+pub const ROW_COUNT: usize = 8;
+
+pub const ERROR_COUNT: usize = 9;
+
+const SLOT_COUNT: usize = 10;
+
+pub const NAME_COUNT: usize = 11;
+
+// Bytes of a word.
+const WORD: usize = 4;
+
+// A word of the case, as a length.
+pub fn size(case: &[u8], i: usize) -> usize
+    ensures { λ r. ⌜ r < 2 ^ 32 ⌝ }
+{
+    word_of(case, i) as usize
+}
+
+// Where the parts of a case start and where the last ends.
+pub struct Parts {
+    pub rows: usize,
+    pub errors: usize,
+    pub slots: usize,
+    pub end: usize,
+}
+
+pub fn parts_of(case: &[u8]) -> Parts
+    ensures { λ r. ⌜ (48 ≤ r .rows) × (r .rows ≤ r .errors) × (r .errors ≤ r .slots) × (r .slots ≤ r .end) ⌝ }
+{
+    let rows = HEAD + size(case, MODULE);
+    let errors = rows + WORD * ROW_WIDTH * size(case, ROW_COUNT);
+    let slots = errors + WORD * ERROR_WIDTH * size(case, ERROR_COUNT);
+    let end = slots + WORD * size(case, SLOT_COUNT);
+    Parts {
+        rows,
+        errors,
+        slots,
+        end,
+    }
+}
