@@ -1,10 +1,9 @@
-//! Buffers that a checker filled, as an answer; and tables of rows, good and damaged.
+//! Buffers that a checker filled, as an answer; and whether rows keep the rules.
 
 use crate::{
     answer::{Answer, Error, Operand},
     layout::{self, Place, Record},
     rows::{Row, Rows, STRING_NAME, kind},
-    tree::Random,
 };
 
 /// The little-endian words of a file.
@@ -108,64 +107,4 @@ fn slots(record: &Record, into: &mut Vec<usize>) {
         into.push(record.slot());
     }
     record.children.iter().for_each(|child| slots(child, into));
-}
-
-/// A table of rows from a seed, sometimes with a broken rule, as bytes.
-pub fn table(seed: u64) -> Vec<u8> {
-    let mut random = Random::new(seed);
-    let mut rows = Rows::new();
-    for _ in 0..random.below(50) {
-        add_row(&mut random, &mut rows);
-    }
-    let mut words: Vec<u32> = vec![];
-    for number in 1..=rows.count() as u32 {
-        let row = rows.row(number);
-        words.extend([row.kind, row.first, row.second, row.name]);
-    }
-    if random.chance(40) {
-        match random.below(4) {
-            0 => {
-                let length = random.below(words.len());
-                words.truncate(length);
-            }
-            1 => {
-                let row = random.below(rows.count()) * 4;
-                words.extend_from_within(row..row + 4);
-            }
-            2 => {
-                let place = random.below(words.len());
-                words[place] =
-                    *random.pick(&[0, 1, words[place].wrapping_add(1), words[place].wrapping_sub(1), 65_535, u32::MAX]);
-            }
-            _ => {
-                let last = words.len() / 4 - 1;
-                let (a, b) = (random.between(5, last), random.between(5, last));
-                (0..4).for_each(|i| words.swap(4 * a + i, 4 * b + i));
-            }
-        }
-    }
-    words.iter().flat_map(|word| word.to_le_bytes()).collect()
-}
-
-fn add_row(random: &mut Random, rows: &mut Rows) {
-    let of = |wanted: fn(Row) -> bool| -> Vec<u32> {
-        (1..=rows.count() as u32).filter(|&number| wanted(rows.row(number))).collect()
-    };
-    let types = of(|row| !row.is_cell());
-    let fields = [vec![0], of(|row| row.kind == kind::FIELD)].concat();
-    let arguments = [vec![0], of(|row| row.kind == kind::ARGUMENT)].concat();
-    let recent = types.len().saturating_sub(4);
-    let ty = if random.chance(60) { *random.pick(&types[recent..]) } else { *random.pick(&types) };
-    let name = random.below(5) as u32;
-    let size = *random.pick(&[0, 1, 2, 3, 4, 16, 255, 256, 257, 65_535, 65_536, u32::MAX]);
-    match random.below(12) {
-        0 | 1 => rows.pointer(ty),
-        2 | 3 => rows.array(ty, size),
-        4 => rows.put(kind::STRUCT, *random.pick(&fields), 0, 0),
-        5 => rows.put(kind::FUNCTION, ty, *random.pick(&arguments), 0),
-        6 | 7 => rows.alias(ty, name, false),
-        8 | 9 => rows.alias(ty, name, true),
-        10 => rows.put(kind::FIELD, ty, *random.pick(&fields), name),
-        _ => rows.put(kind::ARGUMENT, ty, *random.pick(&arguments), 0),
-    };
 }

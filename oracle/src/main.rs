@@ -16,8 +16,9 @@ use oracle::{
     layout::{self, Module},
     model,
     reference::{self, MOST_WORK, Silence},
-    relate, replay, shuffle,
+    relate, relations, replay, shuffle,
     stats::Stats,
+    tables,
 };
 
 const USAGE: &str = "usage:
@@ -32,6 +33,7 @@ const USAGE: &str = "usage:
   oracle tables SEED COUNT DIR
   oracle relate ROWS..
   oracle compare SEED COUNT PRODUCT DIR
+  oracle relations SEED COUNT PRODUCT DIR
   oracle replay ACCEPTED REFUSED DATA NAMES
 A folder among FILES stands for the files in it.";
 
@@ -62,6 +64,7 @@ fn main() -> ExitCode {
         ["tables", seed, count, folder] => tables(seed, count, folder),
         ["relate", ref files @ ..] if !files.is_empty() => related(files),
         ["compare", seed, count, program, folder] => compared(seed, count, program, folder),
+        ["relations", seed, count, program, folder] => compared_relations(seed, count, program, folder),
         ["replay", accepted, refused, data, names] => replayed(accepted, refused, data, names),
         _ => Err(USAGE.to_owned()),
     };
@@ -243,24 +246,39 @@ fn tables(seed: &str, count: &str, folder: &str) -> Done {
     let (seed, count) = (number(seed)?, number(count)?);
     fs::create_dir_all(folder).map_err(|e| e.to_string())?;
     for i in 0..count {
-        let bytes = buffers::table(seed.wrapping_mul(1_000_003).wrapping_add(i));
+        let words = tables::file_words(seed.wrapping_mul(1_000_003).wrapping_add(i));
+        let bytes: Vec<u8> = words.into_iter().flat_map(u32::to_le_bytes).collect();
         write(Path::new(folder).join(format!("rows-{seed}-{i:06}")), &bytes)?;
     }
     Ok(ExitCode::SUCCESS)
 }
 
-fn related(files: &[&str]) -> Done {
-    // The reference panics where a type has no words; those panics are expected.
+/// The reference panics where a type has no words; those panics are expected.
+fn without_panic_messages() {
     std::panic::set_hook(Box::new(|_| {}));
+}
+
+fn related(files: &[&str]) -> Done {
+    without_panic_messages();
     for_each(files, |path| match buffers::rows(&buffers::words(&read(path)?)?) {
         None => Ok("refused 8 at 0\n".to_owned()),
-        Some(rows) => relate::relations(&rows).map_err(|e| format!("{}: {e}", path.display())),
+        Some(rows) => {
+            relate::related(&rows).map(|related| related.text()).map_err(|e| format!("{}: {e}", path.display()))
+        }
     })
 }
 
 fn compared(seed: &str, count: &str, program: &str, folder: &str) -> Done {
     let (differences, text) =
         compare::compare(number(seed)?, number(count)? as usize, Path::new(program), Path::new(folder))?;
+    print!("{text}");
+    Ok(if differences == 0 { ExitCode::SUCCESS } else { ExitCode::FAILURE })
+}
+
+fn compared_relations(seed: &str, count: &str, program: &str, folder: &str) -> Done {
+    without_panic_messages();
+    let (differences, text) =
+        relations::compare(number(seed)?, number(count)? as usize, Path::new(program), Path::new(folder))?;
     print!("{text}");
     Ok(if differences == 0 { ExitCode::SUCCESS } else { ExitCode::FAILURE })
 }

@@ -44,7 +44,38 @@ pub struct Said {
     pub work: Vec<u32>,
 }
 
-/// How long the product may take for one module.
+/// A question about a table of rows.
+#[derive(Clone, Copy, Debug, PartialEq, Eq)]
+pub enum Question {
+    Assignable {
+        target: u32,
+        source: u32,
+    },
+    Castable {
+        source: u32,
+        target: u32,
+    },
+    /// With so many working words lent.
+    WordSize {
+        n: u32,
+        work: usize,
+    },
+}
+
+/// What is said to a question: 0 or the number of the refusal, the value, and the working words.
+#[derive(Clone, Debug, PartialEq, Eq)]
+pub struct Reply {
+    pub number: u32,
+    pub value: u32,
+    pub work: Vec<u32>,
+}
+
+/// The working words before a question.
+pub fn work_before(length: usize) -> Vec<u32> {
+    (0..length as u32).map(|i| FILL.wrapping_add(i)).collect()
+}
+
+/// How long the product may take for one module, or for the questions about one table.
 const LIMIT: Duration = Duration::from_secs(20);
 
 /// The product, in one of its two forms.
@@ -75,6 +106,16 @@ impl Product {
         }
     }
 
+    /// What the product says to questions about the first `count` rows of these words; a program is not asked them.
+    #[cfg_attr(not(linked), allow(unused_variables))]
+    pub fn replies(&mut self, rows: &[u32], count: u32, questions: &[Question]) -> Result<Vec<Reply>, String> {
+        match self {
+            Product::Program(_) => Err("a program is asked about modules alone".to_owned()),
+            #[cfg(linked)]
+            Product::Linked => linked::replies(rows, count, questions),
+        }
+    }
+
     /// Has the product check a module several times, at least two, with the report program's loans.
     pub fn repeat(&mut self, module: &[u8], turns: u32) -> Result<(), String> {
         match self {
@@ -91,7 +132,7 @@ impl Product {
 /// The product as a static library, as `rt staticlib` makes it: a slice is a pointer and a length.
 #[cfg(linked)]
 mod linked {
-    use super::{FILL, LIMIT, Loans, REPORT, Said};
+    use super::{FILL, LIMIT, Loans, Question, REPORT, Reply, Said, work_before};
     use std::{sync::mpsc, thread};
 
     unsafe extern "C" {
@@ -110,6 +151,36 @@ mod linked {
             row_count: *mut u32,
             error_count: *mut usize,
             place: *mut usize,
+        ) -> u32;
+
+        /// 0 with the answer, 1 or 0, or the number of the refusal. So does `castable`.
+        fn delta_null_assignable(
+            rows: *const u32,
+            rows_len: usize,
+            count: u32,
+            target: u32,
+            source: u32,
+            answer: *mut u32,
+        ) -> u32;
+
+        fn delta_null_castable(
+            rows: *const u32,
+            rows_len: usize,
+            count: u32,
+            source: u32,
+            target: u32,
+            answer: *mut u32,
+        ) -> u32;
+
+        /// 0 with the size, or the number of the refusal.
+        fn delta_null_word_size(
+            rows: *const u32,
+            rows_len: usize,
+            count: u32,
+            n: u32,
+            work: *mut u32,
+            work_len: usize,
+            size: *mut u32,
         ) -> u32;
     }
 
@@ -161,6 +232,41 @@ mod linked {
             let _ = send.send(said);
         });
         receive.recv_timeout(LIMIT).map_err(|_| "no answer in time".to_owned())
+    }
+
+    fn reply(rows: &[u32], count: u32, question: Question) -> Reply {
+        let (words, length) = (rows.as_ptr(), rows.len());
+        let mut reply = Reply { number: 0, value: FILL, work: vec![] };
+        // The slices are apart from each other, and the functions keep none of them.
+        reply.number = unsafe {
+            match question {
+                Question::Assignable { target, source } => {
+                    delta_null_assignable(words, length, count, target, source, &mut reply.value)
+                }
+                Question::Castable { source, target } => {
+                    delta_null_castable(words, length, count, source, target, &mut reply.value)
+                }
+                Question::WordSize { n, work } => {
+                    reply.work = work_before(work);
+                    let lent = reply.work.as_mut_ptr();
+                    delta_null_word_size(words, length, count, n, lent, work, &mut reply.value)
+                }
+            }
+        };
+        reply
+    }
+
+    /// On a thread of its own, with a limit of time. The rows must stay as they were.
+    pub fn replies(rows: &[u32], count: u32, questions: &[Question]) -> Result<Vec<Reply>, String> {
+        let (send, receive) = mpsc::channel();
+        let (before, questions) = (rows.to_vec(), questions.to_vec());
+        thread::spawn(move || {
+            let rows = before.clone();
+            let replies = questions.into_iter().map(|question| reply(&rows, count, question)).collect();
+            let _ = send.send((rows == before).then_some(replies));
+        });
+        let replies = receive.recv_timeout(LIMIT).map_err(|_| "no answer in time".to_owned())?;
+        replies.ok_or_else(|| "the rows are not as they were".to_owned())
     }
 
     pub fn repeat(module: &[u8], turns: u32) {

@@ -59,43 +59,83 @@ fn distinct_layers(rows: &Rows, mut number: u32) -> usize {
     layers
 }
 
-/// The words of every type row, then every assignable and every castable pair. The reference is asked wherever it can
-/// answer; where it and the rules differ, that is the error.
-pub fn relations(rows: &Rows) -> Result<String, String> {
+/// What is true of a table that keeps the rules.
+pub struct Related {
+    /// The words of every row, cells included.
+    pub words: Vec<Words>,
+    /// The type rows.
+    pub types: Vec<u32>,
+    /// For every pair of type rows, in order: whether the second is assignable to the first, and whether the first is
+    /// castable to the second.
+    pub pairs: Vec<(bool, bool)>,
+    /// How many words of types, and how many pairs, the reference was asked for.
+    pub asked: [usize; 2],
+}
+
+/// What the rules say of a table. The reference is asked wherever it can answer; where it and the rules differ, that is
+/// the error.
+pub fn related(rows: &Rows) -> Result<Related, String> {
     let sizes = rows.unfolded_sizes();
-    let words = rows.words();
-    let numbers: Vec<u32> = (1..=rows.count() as u32).filter(|&number| !rows.row(number).is_cell()).collect();
     let small = |number: u32| sizes[number as usize - 1] <= MOST_NODES && distinct_layers(rows, number) <= MOST_LAYERS;
-    let types: Vec<Option<Type>> =
-        numbers.iter().map(|&number| small(number).then(|| reference_type(rows, number))).collect();
-    let mut text = String::new();
-    for (&number, ty) in numbers.iter().zip(&types) {
-        let said = words[number as usize - 1];
-        let asked = ty.as_ref().and_then(reference_words);
-        if asked.is_some_and(|asked| asked != said) {
+    let types: Vec<u32> = (1..=rows.count() as u32).filter(|&number| !rows.row(number).is_cell()).collect();
+    let mut related = Related { words: rows.words(), types, pairs: vec![], asked: [0; 2] };
+    let references: Vec<(u32, Option<Type>)> =
+        related.types.iter().map(|&number| (number, small(number).then(|| reference_type(rows, number)))).collect();
+    for (number, ty) in &references {
+        let said = related.words[*number as usize - 1];
+        let Some(asked) = ty.as_ref().and_then(reference_words) else { continue };
+        if asked != said {
             return Err(format!("words of row {number}: the reference says {asked:?}, the rules {said:?}"));
         }
-        text += &match said {
-            Words::Known(words) => format!("words {number} {words}\n"),
-            Words::TooLarge => format!("words {number} too large\n"),
-            Words::Unknown => format!("words {number} unknown\n"),
-        };
+        related.asked[0] += 1;
     }
-    for (&a, a_type) in numbers.iter().zip(&types) {
-        for (&b, b_type) in numbers.iter().zip(&types) {
-            let (assignable, castable) = (rows.assignable(a, b), rows.castable(a, b));
-            if let (Some(x), Some(y)) = (a_type, b_type)
-                && (types_are_assignable(x, y) != assignable || x.is_castable_to(y) != castable)
-            {
-                return Err(format!("rows {a} and {b}: the reference and the rules differ"));
+    for (a, a_type) in &references {
+        for (b, b_type) in &references {
+            let said = (rows.assignable(*a, *b), rows.castable(*a, *b));
+            if let (Some(x), Some(y)) = (a_type, b_type) {
+                if (types_are_assignable(x, y), x.is_castable_to(y)) != said {
+                    return Err(format!("rows {a} and {b}: the reference and the rules differ"));
+                }
+                related.asked[1] += 1;
             }
-            if assignable {
-                text += &format!("assignable {a} {b}\n");
-            }
-            if castable {
-                text += &format!("castable {a} {b}\n");
-            }
+            related.pairs.push(said);
         }
     }
-    Ok(text)
+    Ok(related)
+}
+
+impl Related {
+    /// The place of a type row among the type rows; none for another number.
+    pub fn place(&self, number: u32) -> Option<usize> {
+        self.types.binary_search(&number).ok()
+    }
+
+    /// Whether the second of two type rows, by their places, is assignable to the first, and the first castable to the second.
+    pub fn pair(&self, a: usize, b: usize) -> (bool, bool) {
+        self.pairs[a * self.types.len() + b]
+    }
+
+    /// The words of every type row, then every assignable and every castable pair, by row number.
+    pub fn text(&self) -> String {
+        let mut text = String::new();
+        for &number in &self.types {
+            text += &match self.words[number as usize - 1] {
+                Words::Known(words) => format!("words {number} {words}\n"),
+                Words::TooLarge => format!("words {number} too large\n"),
+                Words::Unknown => format!("words {number} unknown\n"),
+            };
+        }
+        for (i, a) in self.types.iter().enumerate() {
+            for (j, b) in self.types.iter().enumerate() {
+                let (assignable, castable) = self.pair(i, j);
+                if assignable {
+                    text += &format!("assignable {a} {b}\n");
+                }
+                if castable {
+                    text += &format!("castable {a} {b}\n");
+                }
+            }
+        }
+        text
+    }
 }

@@ -1,7 +1,7 @@
 //! The data of the program `replay`: modules with what is lent for them and what the oracle says of them.
 //!
-//! A case is eleven words, least byte first (bytes of the whole case, bytes of the module, bytes lent for the output, words lent for
-//! rows, errors and work, number and place of the refusal or 0, rows, errors, slots), the module, four words for each
+//! A case is twelve words, least byte first (bytes of the whole case, bytes of the module, bytes lent for the output, words lent for
+//! rows, errors and work, number and place of the refusal or 0, rows, errors, slots, names), the module, four words for each
 //! row, seven for each error, one for each slot in byte order. The rows are numbered as the oracle numbers them.
 
 use std::collections::HashSet;
@@ -10,9 +10,10 @@ use crate::{
     answer::{Answer, Operand},
     compare::{Truth, truth},
     damage, generate, hand,
-    layout::{Module, Record},
-    orders,
+    layout::{self, Module, Record},
+    model, orders,
     product::{Loans, REPORT},
+    tree::Random,
 };
 
 /// The cases, with their names, and how many of them are accepted.
@@ -21,10 +22,20 @@ pub struct Replay {
     pub bytes: Vec<u8>,
     pub names: Vec<String>,
     pub accepted: usize,
-    /// What the accepted modules have in them.
+    /// What the accepted modules have in them, and how many of them have each kind of error.
     seen: HashSet<Feature>,
+    errors: [usize; ERROR_KINDS + 1],
     modules: HashSet<Vec<u8>>,
 }
+
+/// How many kinds of errors there are.
+const ERROR_KINDS: usize = 29;
+
+/// In how many accepted cases each kind of error stands, at least.
+const CASES_OF_AN_ERROR: usize = 40;
+
+/// How many modules are lent each of the loans of `tight`.
+const CASES_OF_A_LOAN: usize = 12;
 
 /// Something in a module that a checker can get wrong: what sort it is, a kind, and the kinds that go with it.
 type Feature = (u8, u32, [u32; 3]);
@@ -51,16 +62,20 @@ fn answer_words(answer: &Answer) -> Vec<u32> {
 /// One case.
 fn case(bytes: &[u8], loans: Loans, truth: &Truth) -> Vec<u8> {
     let (refusal, counts, body) = match (truth.refusal(bytes, loans), &truth.outcome) {
-        (None, Ok((_, answer))) => {
-            let counts = [answer.rows.count(), answer.errors.len(), answer.slots.len()];
+        (None, Ok((module, answer))) => {
+            let counts = [answer.rows.count(), answer.errors.len(), answer.slots.len(), module.names.len()];
             ([0, 0], counts, answer_words(answer))
+        }
+        // Where working words are cleared it is known how many.
+        (Some(refusal), Ok((module, _))) if refusal.number > 5 => {
+            ([refusal.number as usize, refusal.place], [0, 0, 0, module.names.len()], vec![])
         }
         (refusal, _) => {
             let refusal = refusal.expect("a module that is not accepted");
-            ([refusal.number as usize, refusal.place], [0; 3], vec![])
+            ([refusal.number as usize, refusal.place], [0; 4], vec![])
         }
     };
-    let total = 44 + bytes.len() + 4 * body.len();
+    let total = 48 + bytes.len() + 4 * body.len();
     let head =
         [&[total, bytes.len(), loans.output, loans.rows, loans.errors, loans.work], &refusal[..], &counts].concat();
     let mut out: Vec<u8> = head.iter().flat_map(|&word| (word as u32).to_le_bytes()).collect();
@@ -102,18 +117,87 @@ fn features(module: &Module, answer: &Answer) -> HashSet<Feature> {
     all
 }
 
+/// Exactly what a module needs.
+fn exact(bytes: &[u8], module: &Module, answer: &Answer) -> Loans {
+    Loans {
+        output: bytes.len(),
+        rows: 4 * answer.rows.count(),
+        errors: 7 * answer.errors.len(),
+        work: 4 * module.names.len(),
+    }
+}
+
+/// Exactly what a module needs and words that are no whole row, error or name.
+fn odd(exact: Loans, random: &mut Random) -> Loans {
+    Loans {
+        output: exact.output + random.below(4),
+        rows: exact.rows + random.below(4),
+        errors: exact.errors + random.below(7),
+        work: exact.work + random.below(4),
+    }
+}
+
+/// Loans for a module with errors, with their name: exactly what it needs, and a little more or less of each.
+fn tight(exact: Loans, random: &mut Random) -> Vec<(&'static str, Loans)> {
+    let Loans { output, rows, errors, work } = exact;
+    let mut from = |low, high| random.between(low, high);
+    let (few_rows, few_errors) = (from(1, 3), from(1, 6));
+    vec![
+        ("exact loans", exact),
+        ("output to spare", Loans { output: output + from(1, 9), ..exact }),
+        ("row words to spare", Loans { rows: rows + few_rows, ..exact }),
+        ("error words to spare", Loans { errors: errors + few_errors, ..exact }),
+        ("working words to spare", Loans { work: work + from(1, 9), ..exact }),
+        ("an output of one byte less", Loans { output: output - 1, ..exact }),
+        ("no output", Loans { output: 0, ..exact }),
+        ("one working word less", Loans { work: work - 1, ..exact }),
+        ("no working words", Loans { work: 0, ..exact }),
+        ("too little of all", Loans { output: output - 1, rows: rows - 1, errors: errors - 1, work: work - 1 }),
+        ("one row word less", Loans { rows: rows - 1, ..exact }),
+        ("no whole last row", Loans { rows: rows - 4 + few_rows, ..exact }),
+        ("one row less", Loans { rows: rows - 4, ..exact }),
+        ("six rows and some words", Loans { rows: 24 + few_rows, ..exact }),
+        ("no rows", Loans { rows: 0, ..exact }),
+        ("too few rows and errors", Loans { rows: rows - few_rows, errors: errors - few_errors, ..exact }),
+        ("one error word less", Loans { errors: errors - 1, ..exact }),
+        ("no whole last error", Loans { errors: errors - 7 + few_errors, ..exact }),
+        ("one error less", Loans { errors: errors - 7, ..exact }),
+        ("no errors lent", Loans { errors: 0, ..exact }),
+        ("too few errors, row words to spare", Loans { rows: rows + few_rows, errors: errors - few_errors, ..exact }),
+    ]
+}
+
+/// The class of generated module for a seed.
+fn class_of(seed: u64) -> &'static str {
+    ["typed", "tiny", "wild", "aliases", "casts", "statements", "structs", "tiny"][seed as usize % 8]
+}
+
 impl Replay {
-    /// Adds a case; its bytes.
-    fn add(&mut self, name: String, bytes: &[u8], loans: Loans, truth: &Truth) -> usize {
-        let case = case(bytes, loans, truth);
-        self.bytes.extend(&case);
+    /// Adds a case, unless there is one with this module.
+    fn add(&mut self, name: String, bytes: &[u8], loans: Loans, truth: &Truth) {
+        if !self.modules.insert(bytes.to_vec()) {
+            return;
+        }
+        self.bytes.extend(case(bytes, loans, truth));
         self.names.push(name);
         if let (None, Ok((module, answer))) = (truth.refusal(bytes, loans), &truth.outcome) {
             self.accepted += 1;
             self.seen.extend(features(module, answer));
+            let kinds: HashSet<u32> = answer.errors.iter().map(|error| error.kind).collect();
+            kinds.into_iter().for_each(|kind| self.errors[kind as usize] += 1);
         }
-        self.modules.insert(bytes.to_vec());
-        case.len()
+    }
+
+    /// Adds an accepted module from a seed, with the report program's loans, exact ones or a little more.
+    fn add_accepted(&mut self, seed: u64, bytes: &[u8], truth: &Truth) {
+        let Ok((module, answer)) = &truth.outcome else { return };
+        let exact = exact(bytes, module, answer);
+        let (what, loans) = match seed % 3 {
+            0 => ("", REPORT),
+            1 => (", exact loans", exact),
+            _ => (", words to spare", odd(exact, &mut Random::new(seed))),
+        };
+        self.add(format!("{} {seed}{what}", class_of(seed)), bytes, loans, truth);
     }
 
     pub fn refused(&self) -> usize {
@@ -123,9 +207,6 @@ impl Replay {
     /// The modules by hand.
     fn by_hand(&mut self) -> Result<(), String> {
         for case in hand::cases() {
-            if self.modules.contains(&case.bytes) && case.loans == REPORT {
-                continue;
-            }
             let truth = truth(&case.bytes).map_err(|why| format!("{}: {why}", case.name))?;
             self.add(case.name, &case.bytes, case.loans, &truth);
         }
@@ -138,9 +219,7 @@ impl Replay {
             if self.accepted >= enough {
                 return Ok(());
             }
-            let class =
-                ["typed", "tiny", "wild", "aliases", "casts", "statements", "structs", "tiny"][seed as usize % 8];
-            let bytes = generate::module(class, seed);
+            let bytes = generate::module(class_of(seed), seed);
             if bytes.len() > most || self.modules.contains(&bytes) {
                 continue;
             }
@@ -148,10 +227,54 @@ impl Replay {
             let Ok((module, answer)) = &truth.outcome else { continue };
             let size = bytes.len() + 4 * answer_words(answer).len();
             if size <= most && (old || !features(module, answer).is_subset(&self.seen)) {
-                self.add(format!("{class} {seed}"), &bytes, REPORT, &truth);
+                self.add_accepted(seed, &bytes, &truth);
             }
         }
         Ok(())
+    }
+
+    /// Modules of at most `most` bytes from seeds until each kind of error stands in enough cases.
+    fn errors(&mut self, seeds: std::ops::Range<u64>, most: usize) -> Result<(), String> {
+        for seed in seeds {
+            if self.errors[1..].iter().all(|&cases| cases >= CASES_OF_AN_ERROR) {
+                return Ok(());
+            }
+            let bytes = generate::module(class_of(seed), seed);
+            if bytes.len() > most || self.modules.contains(&bytes) {
+                continue;
+            }
+            let Ok(module) = layout::read(&bytes) else { continue };
+            let kinds: Vec<u32> = model::check(&module).answer.errors.iter().map(|error| error.kind).collect();
+            if kinds.iter().any(|&kind| self.errors[kind as usize] < CASES_OF_AN_ERROR) {
+                self.add_accepted(seed, &bytes, &truth(&bytes)?);
+            }
+        }
+        Err(format!("too few cases of some kind of error: {:?}", self.errors))
+    }
+
+    /// Modules of at most `most` bytes, each with one of the loans of `tight`, so many of each.
+    fn loans(&mut self, mut seeds: std::ops::Range<u64>, most: usize) -> Result<(), String> {
+        let mut left = 0;
+        while let Some(seed) = seeds.next() {
+            let bytes = generate::module(class_of(seed), seed);
+            if bytes.len() > most || self.modules.contains(&bytes) {
+                continue;
+            }
+            let truth = truth(&bytes)?;
+            let Ok((module, answer)) = &truth.outcome else { continue };
+            // So that each of the loans is short of what it says.
+            if module.names.is_empty() || answer.rows.count() < 9 || answer.errors.is_empty() {
+                continue;
+            }
+            let all = tight(exact(&bytes, module, answer), &mut Random::new(seed));
+            if left == all.len() * CASES_OF_A_LOAN {
+                return Ok(());
+            }
+            let (what, loans) = all[left % all.len()];
+            self.add(format!("{} {seed}, {what}", class_of(seed)), &bytes, loans, &truth);
+            left += 1;
+        }
+        Err("too few modules for the loans".to_owned())
     }
 
     /// Modules and other orders of them that demand 3 speaks of, at most so large, so many pairs.
@@ -162,7 +285,8 @@ impl Replay {
             }
             let bytes = generate::module("tiny", seed);
             let Some(other) = orders::another_order(&bytes, seed) else { continue };
-            if bytes.len() <= most && other != bytes && !self.modules.contains(&bytes) {
+            let are_new = other != bytes && !self.modules.contains(&bytes) && !self.modules.contains(&other);
+            if bytes.len() <= most && are_new {
                 self.add(format!("order {seed}"), &bytes, REPORT, &truth(&bytes)?);
                 self.add(format!("other order {seed}"), &other, REPORT, &truth(&other)?);
                 pairs -= 1;
@@ -188,7 +312,12 @@ impl Replay {
             }
             let truth = truth(&copy)?;
             if truth.outcome.as_ref().is_err_and(|refusal| wanted(refusal.number)) {
-                self.add(format!("{what} {seed}"), &copy, REPORT, &truth);
+                let (lent, loans) = match seed % 5 {
+                    0 | 1 => ("", REPORT),
+                    2 => (", nothing lent", Loans { output: 0, rows: 0, errors: 0, work: 0 }),
+                    _ => (", little lent", Loans { output: copy.len(), rows: 31, errors: 20, work: 11 }),
+                };
+                self.add(format!("{what} {seed}{lent}"), &copy, loans, &truth);
             }
         }
         Ok(())
@@ -200,6 +329,8 @@ pub fn replay(accepted: usize, refused: usize) -> Result<Replay, String> {
     let mut replay = Replay::default();
     replay.by_hand()?;
     replay.orders(450, 60)?;
+    replay.loans(700_000..800_000, 500)?;
+    replay.errors(800_000..1_000_000, 750)?;
     replay.generated(0..60_000, 750, false, accepted)?;
     replay.generated(60_000..600_000, 380, true, accepted)?;
     replay.damaged(1_500, |number| number == 3, 40)?;

@@ -5,7 +5,7 @@ mod common;
 use std::time::Duration;
 
 use oracle::{
-    answer::Operand, buffers, compare, damage, generate, hand, layout, model, orders, reference, relate, shrink,
+    answer::Operand, buffers, compare, damage, generate, hand, layout, model, orders, reference, relate, shrink, tables,
 };
 
 /// Compares the two checkers on a file, unless the reference is silent on it.
@@ -44,9 +44,8 @@ fn damaged_copies() {
 fn row_tables() {
     std::panic::set_hook(Box::new(|_| {}));
     for seed in 0..200 {
-        let words = buffers::words(&buffers::table(seed)).unwrap();
-        if let Some(rows) = buffers::rows(&words) {
-            relate::relations(&rows).unwrap();
+        if let Some(rows) = buffers::rows(&tables::file_words(seed)) {
+            relate::related(&rows).unwrap();
         }
     }
     let _ = std::panic::take_hook();

@@ -17,6 +17,7 @@ pub fn add(all: &mut Vec<Case>) {
     unary(all);
     pairs(all);
     calls(all);
+    arguments(all);
     casts(all);
     fields(all);
     lookups(all);
@@ -81,6 +82,15 @@ fn calls(all: &mut Vec<Case>) {
     let decays = record(36, &[0], vec![id(F), var("h")]);
     let items = vec![record(80, &[F], vec![void(), parameter]), global_with(Y, ty(U16), decays)];
     put(all, "an argument that decays", complete(items));
+}
+
+/// A call with an operand of each sort as one of its two arguments, and as both.
+fn arguments(all: &mut Vec<Case>) {
+    for text in OPERANDS {
+        put(all, format!("a call, {text} as the first argument"), evaluated(vec![call("g", &[text, "b"])]));
+        put(all, format!("a call, {text} as the second argument"), evaluated(vec![call("g", &["u", text])]));
+        put(all, format!("a call, {text} as both arguments"), evaluated(vec![call("g", &[text, text])]));
+    }
 }
 
 /// Types to cast to and to assign to, with a variable of each.

@@ -18,15 +18,15 @@ pub fn add(all: &mut Vec<Case>) {
     put(all, "no names and no items", complete(vec![]));
 }
 
-/// Document 01's module of 112 bytes.
-pub fn example_module() -> Vec<u8> {
+/// Document 01's module of 112 bytes, in which the type stands on line 3.
+pub fn example_module(line: u32) -> Vec<u8> {
     let mut ty = record(16, &[0, 1], vec![]);
-    ty.at = Place { file: 0, line: 3, column: 8 };
+    ty.at = Place { file: 0, line, column: 8 };
     Tree::module(&["x", "u17"], vec![record(83, &[0], vec![ty])]).to_bytes()
 }
 
 fn example(all: &mut Vec<Case>) {
-    put(all, "the example of 112 bytes", example_module());
+    put(all, "the example of 112 bytes", example_module(3));
     let empty = Tree::module(&["", "u16"], vec![record(83, &[0], vec![record(16, &[0, 1], vec![])])]).to_bytes();
     put(all, "a variable with the empty name", empty);
 }
@@ -124,8 +124,8 @@ fn orders(all: &mut Vec<Case>) {
     put(all, "joining order: x, alias, y", of([variable(2), declared(), variable(3)]));
     let table = |size: u32| global(X, array(size, ty(U16)));
     let reader = function(ty(U16), give(record(37, &[0], vec![id(X), number("24")])));
-    put(all, "the hour table: 24, then 25", complete(vec![table(24), table(25), reader.clone()]));
-    put(all, "the hour table: 25, then 24", complete(vec![table(25), table(24), reader]));
+    put(all, "a table declared twice, 24 then 25", complete(vec![table(24), table(25), reader.clone()]));
+    put(all, "a table declared twice, 25 then 24", complete(vec![table(25), table(24), reader]));
     put(
         all,
         "names of built-in types as variables",

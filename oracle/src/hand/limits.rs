@@ -89,7 +89,7 @@ pub fn with_errors(errors: usize) -> Vec<u8> {
     bytes
 }
 
-/// The example with exactly what it needs lent, and less of each by one.
+/// The example with exactly what it needs lent, and less of each by one. Its type stands on another line each time.
 fn loans(all: &mut Vec<Case>) {
     let exact = Loans { output: 112, rows: 28, errors: 14, work: 8 };
     let lent = [
@@ -105,8 +105,8 @@ fn loans(all: &mut Vec<Case>) {
         ("too few rows and errors", Loans { rows: 27, errors: 13, ..exact }),
         ("nothing lent", Loans { output: 0, rows: 0, errors: 0, work: 0 }),
     ];
-    for (what, loans) in lent {
-        all.push(Case { name: format!("the example, {what}"), bytes: example_module(), loans });
+    for ((what, loans), line) in lent.into_iter().zip(4..) {
+        all.push(Case { name: format!("the example at line {line}, {what}"), bytes: example_module(line), loans });
     }
     all.push(Case { name: "the empty file, nothing lent".to_owned(), bytes: vec![], loans: lent[10].1 });
     put(all, "the empty file", vec![]);

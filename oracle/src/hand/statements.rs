@@ -9,6 +9,7 @@ use crate::{layout::Place, tree::Tree};
 pub fn add(all: &mut Vec<Case>) {
     plain(all);
     locals(all);
+    redefinitions(all);
     conditions(all);
     returns(all);
     divergence(all);
@@ -56,6 +57,25 @@ fn locals(all: &mut Vec<Case>) {
     let other = record(80, &[Y], vec![void(), statement(65, vec![var("x")])]);
     put(all, "a local in another function", complete(vec![function(void(), bare(ty(U16))), other]));
     put(all, "a local named as its function", complete(vec![function(void(), record(66, &[F], vec![ty(U16)]))]));
+}
+
+/// A local twice, of every pair of a few types, the second with a value of each sort.
+fn redefinitions(all: &mut Vec<Case>) {
+    let types = ["u16", "bool", "String", "C", "D", "R"];
+    for (first, one) in types.into_iter().enumerate() {
+        for (second, two) in types.into_iter().enumerate() {
+            let value = var(["u", "b", "s", "c", "d", "r", "nobody"][(first + 2 * second) % 7]);
+            let members = vec![
+                record(66, &[X], vec![named(one)]),
+                at(2, local(named(two), value)),
+                statement(65, vec![var("x")]),
+            ];
+            put(all, format!("a local twice, {one} then {two}"), in_function(members));
+        }
+    }
+    let parameter = record(85, &[X], vec![ty(BOOL)]);
+    let twice = block(vec![local(ty(U16), number("1")), at(3, local(ty(I16), var("x")))]);
+    put(all, "a local twice, named as a parameter", complete(vec![record(80, &[F], vec![void(), parameter, twice])]));
 }
 
 fn conditions(all: &mut Vec<Case>) {
