@@ -8,51 +8,51 @@ use rows::ROW_WIDTH;
 ghost use Prim.Native.Nat.{_<_, _≤_, _^_};
 
 // The bytes of the words before the module, and the places of these words.
-pub const HEAD: usize = 48;
+pub(crate) const HEAD: usize = 48;
 
-pub const TOTAL: usize = 0;
+pub(crate) const TOTAL: usize = 0;
 
-pub const MODULE: usize = 1;
+pub(crate) const MODULE: usize = 1;
 
-pub const OUTPUT: usize = 2;
+pub(crate) const OUTPUT: usize = 2;
 
-pub const ROWS: usize = 3;
+pub(crate) const ROWS: usize = 3;
 
-pub const ERRORS: usize = 4;
+pub(crate) const ERRORS: usize = 4;
 
-pub const WORK: usize = 5;
+pub(crate) const WORK: usize = 5;
 
-pub const NUMBER: usize = 6;
+pub(crate) const NUMBER: usize = 6;
 
-pub const PLACE: usize = 7;
+pub(crate) const PLACE: usize = 7;
 
-pub const ROW_COUNT: usize = 8;
+pub(crate) const ROW_COUNT: usize = 8;
 
-pub const ERROR_COUNT: usize = 9;
+pub(crate) const ERROR_COUNT: usize = 9;
 
 const SLOT_COUNT: usize = 10;
 
-pub const NAME_COUNT: usize = 11;
+pub(crate) const NAME_COUNT: usize = 11;
 
 // Bytes of a word.
 const WORD: usize = 4;
 
 // A word of the case, as a length.
-pub fn size(case: &[u8], i: usize) -> usize
+pub(crate) fn size(case: &[u8], i: usize) -> usize
     ensures { λ r. ⌜ r < 2 ^ 32 ⌝ }
 {
     word_of(case, i) as usize
 }
 
 // Where the parts of a case start and where the last ends.
-pub struct Parts {
+pub(crate) struct Parts {
     pub rows: usize,
     pub errors: usize,
     pub slots: usize,
     pub end: usize,
 }
 
-pub fn parts_of(case: &[u8]) -> Parts
+pub(crate) fn parts_of(case: &[u8]) -> Parts
     ensures { λ r. ⌜ (48 ≤ r .rows) × (r .rows ≤ r .errors) × (r .errors ≤ r .slots) × (r .slots ≤ r .end) ⌝ }
 {
     let rows = HEAD + size(case, MODULE);

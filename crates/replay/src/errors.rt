@@ -47,7 +47,7 @@ fn error_word(errors: &[u8], i: usize, numbers: &[u32]) -> u32 {
 }
 
 // Whether the checker's errors are those of the case.
-pub fn errors_match(expected: &[u8], errors: &[u32], numbers: &[u32]) -> bool {
+pub(crate) fn errors_match(expected: &[u8], errors: &[u32], numbers: &[u32]) -> bool {
     let mut i = 0;
     while i < errors.len() {
         if errors[i] != error_word(expected, i, numbers) {

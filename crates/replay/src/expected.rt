@@ -6,7 +6,7 @@ ghost use Rattle.contract.specs.Moments.{old};
 ghost use Rattle.replay.specs.Words.{partWord};
 
 // The word of this number in a part of a case; 0 past its end.
-pub fn word_of(part: &[u8], i: usize) -> u32
+pub(crate) fn word_of(part: &[u8], i: usize) -> u32
     ensures { λ r. ⌜ r ≡ partWord (old part) i ⌝ }
 {
     if part.len() / 4 <= i {
@@ -16,7 +16,7 @@ pub fn word_of(part: &[u8], i: usize) -> u32
 }
 
 // The checker's number of a row of the case. 0 stays 0.
-pub fn number_of(numbers: &[u32], n: u32) -> u32
+pub(crate) fn number_of(numbers: &[u32], n: u32) -> u32
     ensures { λ r. ⌜ r ≡ getD (old numbers) n 0 ⌝ }
 {
     let i = n as usize;

@@ -23,7 +23,7 @@ use type_check::Answer;
 use type_check::type_check_module;
 
 // What becomes of a case: it is accepted or refused as expected, or it differs.
-pub enum Verdict {
+pub(crate) enum Verdict {
     Good,
     Refused,
     Differs,
@@ -129,7 +129,7 @@ fn judge_module(
 
 // Lends what the case says, runs the checker and compares. A case that is not whole, or that asks for more than there
 // is, differs.
-pub fn judge(
+pub(crate) fn judge(
     case: &[u8],
     output: &mut [u8],
     rows: &mut [u32],

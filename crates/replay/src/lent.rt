@@ -49,7 +49,7 @@ fn fill_bytes(bytes: &mut [u8]) {
 }
 
 // Fills what is lent.
-pub fn fill(output: &mut [u8], rows: &mut [u32], errors: &mut [u32], work: &mut [u32]) {
+pub(crate) fn fill(output: &mut [u8], rows: &mut [u32], errors: &mut [u32], work: &mut [u32]) {
     fill_bytes(output);
     fill_words(rows, ROWS_BUFFER);
     fill_words(errors, ERRORS_BUFFER);
@@ -169,7 +169,13 @@ fn results_cleared(w: Written, output: &[u8], rows: &[u32], errors: &[u32]) -> b
 
 // Whether the words and bytes that hold no result are as the case demands: the working words of the names are 0, of a
 // case that is refused the results are 0 too, and all others are as they were.
-pub fn lent_match(case: &[u8], output: &[u8], rows: &[u32], errors: &[u32], work: &[u32]) -> bool {
+pub(crate) fn lent_match(
+    case: &[u8],
+    output: &[u8],
+    rows: &[u32],
+    errors: &[u32],
+    work: &[u32],
+) -> bool {
     let w = written_in(case);
     if !rest_kept(w, output, rows, errors, work) {
         return false;

@@ -41,7 +41,12 @@ fn record_matches(input: &[u8], output: &[u8], row: u32) -> bool
 }
 
 // Whether the output is the input with its slots filled with the rows of the case.
-pub fn output_matches(input: &[u8], output: &[u8], expected: &[u8], numbers: &[u32]) -> bool {
+pub(crate) fn output_matches(
+    input: &[u8],
+    output: &[u8],
+    expected: &[u8],
+    numbers: &[u32],
+) -> bool {
     if output.len() != input.len() {
         return false;
     }

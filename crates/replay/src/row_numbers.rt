@@ -87,7 +87,7 @@ fn match_row(expected: &[u8], i: u32, rows: &[u32], count: u32, numbers: &mut [u
 }
 
 // Finds the checker's number of each row of the case.
-pub fn rows_match(expected: &[u8], rows: &[u32], count: u32, numbers: &mut [u32]) -> bool {
+pub(crate) fn rows_match(expected: &[u8], rows: &[u32], count: u32, numbers: &mut [u32]) -> bool {
     let mut i: u32 = 0;
     while i < count {
         if !match_row(expected, i, rows, count, numbers) {
