@@ -1,9 +1,9 @@
 -- The fields of a struct compound whose values are typed: what is required of them, what they show, and what the checks promise.
-use Prim.Native.Nat.{ℕ, _+_, _%_, _≤_, _<_, min}
+use Prim.Native.Nat.{ℕ, _+_, _<_, min}
 use mathlib.Core.Path.{_≡_}
 use mathlib.Core.Bool.{Bool, cond}
 use mathlib.Core.List.{List, [], _∷_}
-use lib.ListN.{getD}
+use lib.ListN.{length, getD, set}
 use lib.Dec.{leb}
 use Rattle.types.specs.Ty.{Ty, firstOf, fieldNamed}
 use Rattle.types.specs.Table.{unfolded}
@@ -89,13 +89,13 @@ upToTwo count = min (count + 1) 2
 abbrev pub entries : ℕ
 entries = 4096
 
--- The entry of a name in a table; 2, which says nothing, if there is none
-abbrev pub entryOf : (table : List ℕ) → (name : ℕ) → ℕ
-entryOf table name = getD table (name % entries) 2
+-- A table with a name counted: its entry one higher, but no more than 2. A name without an entry changes nothing
+abbrev pub withName : (table : List ℕ) → (name : ℕ) → List ℕ
+withName table name = set table name (upToTwo (getD table name 0))
 
--- No more fields have a name than its entry says, if that is 0 or 1
+-- Each entry is how many fields have its number as their name, but no more than 2
 pub record Tallied (s : List ℕ) (from stop : ℕ) (table : List ℕ) : Type 0 where
-  pub most : (name : ℕ) → entryOf table name ≤ 1 → (fields : List CompoundField) → FieldsAt s stop fields from → occurrences name fields ≤ entryOf table name
+  pub entry : (name : ℕ) → name < length table → (fields : List CompoundField) → FieldsAt s stop fields from → getD table name 0 ≡ min (occurrences name fields) 2
 
 -- r is whether at most one field has the name
 pub record Single (s : List ℕ) (from stop name : ℕ) (r : Bool) : Type 0 where

@@ -13,7 +13,7 @@ use node::bytes::length_at;
 use node::bytes::word;
 use walk::State;
 ghost use Prim.Native.Nat.{_+_, _^_, _≤_, _<_};
-ghost use lib.ListN.{length};
+ghost use lib.ListN.{length, replicate};
 ghost use mathlib.Core.Path.{_≡_};
 ghost use Rattle.contract.specs.Moments.{old, final};
 ghost use Rattle.types.specs.Ty.{structKind, kindOf};
@@ -23,7 +23,7 @@ ghost use Rattle.relations.specs.Entry.{OneType};
 ghost use Rattle.call_rules.specs.Lists.{RecordsListed, SlotsFilled};
 ghost use Rattle.compound_rules.specs.Elements.{CheckElements, ArrayCompound};
 ghost use Rattle.compound_rules.specs.Fields.{valuePlace, FilledFields, CheckField, CheckFields, countIf, Occurs};
-ghost use Rattle.compound_rules.specs.Fields.{upToTwo, entries, entryOf, Tallied, Single, CheckRepeats};
+ghost use Rattle.compound_rules.specs.Fields.{upToTwo, entries, withName, Tallied, Single, CheckRepeats};
 ghost use Rattle.compound_rules.specs.Fields.{StructCompound};
 
 // The elements from `from` to `end` against the element type; errors stand at the record at `at`.
@@ -181,40 +181,41 @@ fn up_to_two(count: u8) -> u8
     2
 }
 
-// Counts the names of the fields from `from` to `end` into a table. Names that share an entry are counted together.
+// Counts a name into a table, if it has an entry there.
+fn count_name(table: &mut [u8; ENTRIES], name: u32)
+    requires { ⌜ length (now table) ≡ entries ⌝ }
+    ensures { λ _. ⌜ final table ≡ withName (old table) name ⌝ }
+{
+    let i = name as usize;
+    if ENTRIES <= i {
+        return;
+    }
+    let count = table[i];
+    table[i] = up_to_two(count);
+}
+
+// Counts the names of the fields from `from` to `end` into a table of zeros.
 fn count_names(s: &[u8], from: usize, end: usize, table: &mut [u8; ENTRIES])
-    requires { ⌜ RecordsListed (now s) from end × (length (now table) ≡ entries) ⌝ }
+    requires { ⌜ RecordsListed (now s) from end × (now table ≡ replicate entries 0) ⌝ }
     ensures { λ _. ⌜ Tallied (old s) from end (final table) × (length (final table) ≡ entries) ⌝ }
 {
     let mut at = from;
     while at < end {
-        let i = word(s, at + HEAD_END) as usize % ENTRIES;
-        let count = table[i];
-        table[i] = up_to_two(count);
+        count_name(table, word(s, at + HEAD_END));
         at = at + length_at(s, at);
     }
 }
 
-// The entry of a name in a table; 2 if there is none.
-fn entry_of(table: &[u8], name: u32) -> u8
-    ensures { λ r. ⌜ r ≡ entryOf (old table) name ⌝ }
-{
-    let i = name as usize % ENTRIES;
-    if table.len() <= i {
-        return 2;
-    }
-    table[i]
-}
-
-// Whether one field from `from` to `end` at most has a name. They are counted only if the table leaves it open.
+// Whether one field from `from` to `end` at most has a name. A name without an entry is counted.
 fn is_single(s: &[u8], from: usize, end: usize, table: &[u8], name: u32) -> bool
     requires { ⌜ RecordsListed (now s) from end × Tallied (now s) from end (now table) ⌝ }
     ensures { λ r. ⌜ Single (old s) from end name r ⌝ }
 {
-    if entry_of(table, name) <= 1 {
-        return true;
+    let i = name as usize;
+    if table.len() <= i {
+        return occurrences(s, from, end, name) <= 1;
     }
-    occurrences(s, from, end, name) <= 1
+    table[i] <= 1
 }
 
 // An error at each field from `from` to `end` whose name another has too. The table may be empty.

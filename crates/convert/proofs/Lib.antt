@@ -2,3 +2,4 @@ pub mod Visits
 pub mod Heads
 pub mod Leaves
 pub mod Laws
+pub mod Chunks

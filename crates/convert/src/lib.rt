@@ -26,6 +26,7 @@ ghost use Prim.Native.Nat.{_+_, _*_, _<_, _≤_};
 ghost use lib.ListN.{length};
 ghost use Rattle.contract.specs.Moments.{old, final};
 ghost use Rattle.row_index.specs.Index.{Indexed};
+ghost use Rattle.types.specs.Ty.{fieldKind};
 ghost use Rattle.types.specs.Table.{Table};
 ghost use Rattle.types.specs.Post.{PartsOk};
 ghost use Rattle.shape.specs.Kinds as kinds;
@@ -38,6 +39,8 @@ ghost use Rattle.node.specs.Fine.{FineNode, FineNodes};
 ghost use Rattle.meaning.specs.Promise.{workWidth};
 ghost use Rattle.walk.specs.Words.{slotEnd};
 ghost use Rattle.walk.specs.Moments.{given, before, after};
+ghost use Rattle.walk.specs.Cells.{CellsMade, CellsOk};
+ghost use Rattle.convert.specs.Chunk.{chunk, fieldCell, FieldsChunk};
 ghost use Rattle.convert.specs.Post.{Ready, ConvertedNode, FieldsConverted, Named, settled, RowSettled};
 ghost use Rattle.convert.specs.Post.{Primitive, orElseRow, errorFor, TypeOpened, FieldOpened};
 
@@ -45,6 +48,18 @@ ghost use Rattle.convert.specs.Post.{Primitive, orElseRow, errorFor, Typ
 pub struct Pass {
     pub names: BuiltIns,
     pub fill: bool,
+}
+
+// How many fields are converted together, and the words that are kept of them: the type row and the name of each.
+const CHUNK: usize = 32;
+
+const KEPT: usize = 64;
+
+// The first members of a list, converted: how many, from where on the others stand, and the state after them.
+pub struct Chunk {
+    pub count: usize,
+    pub from: usize,
+    pub state: State,
 }
 
 // A field's name, and where the next one stands.
@@ -179,8 +194,8 @@ fn field_head(s: &[u8], fields: Nodes) -> FieldHead
     }
 }
 
-// The type row of a T record. At most some 3,300 calls of this and of `convert_fields` are open at a time: each has a
-// record of its own, of 20 bytes or more.
+// The type row of a T record. The calls open at a time are bounded by the depth, and in `convert_fields` by the fields
+// of a list over `CHUNK`.
 pub fn convert_node_type(
     s: &[u8],
     pass: Pass,
@@ -306,7 +321,76 @@ fn convert_struct(
     settle_row(node.at, pass.fill, output, rows, index, next, row)
 }
 
-// The cells of some fields, made from the last to the first.
+// The type rows and the names of the first fields, as many as have room.
+fn convert_chunk(
+    s: &[u8],
+    pass: Pass,
+    work: &[u32],
+    fields: Nodes,
+    kept: &mut [u32; KEPT],
+    output: &mut [u8],
+    errors: &mut [u32],
+    rows: &mut [u32],
+    index: &mut [u16; row_index::LENGTH],
+    mut state: State,
+) -> Chunk
+    requires { ⌜ FineNodes (now s) fields Fields × (fields .from < fields .end) × (length (now kept) ≡ 2 * chunk) ⌝ }
+    requires { ⌜ Ready (now s) (given work output errors rows index state) ⌝ }
+    ensures { λ r. ⌜ FieldsChunk (old s) pass fields (final kept)
+        (before work output errors rows index state)
+        (after work output errors rows index (r .state)) r ⌝ }
+{
+    let end = fields.end;
+    let depth = fields.depth;
+    let mut count: usize = 0;
+    let mut from = fields.from;
+    while count < CHUNK {
+        if end <= from {
+            return Chunk { count, from, state };
+        }
+        let head = field_head(s, Nodes { from, end, depth });
+        let at = from + FIELD_END;
+        let level = depth - 1;
+        let inner = Node { at, depth: level };
+        let field = convert_node_type(s, pass, work, inner, output, errors, rows, index, state);
+        kept[2 * count] = field.ty;
+        kept[2 * count + 1] = head.name;
+        count += 1;
+        from = head.next;
+        state = field.state;
+    }
+    Chunk { count, from, state }
+}
+
+// The cells of so many fields before the list `rest`, made from the last to the first.
+fn make_fields(
+    kept: &[u32; KEPT],
+    count: usize,
+    rows: &mut [u32],
+    index: &mut [u16; row_index::LENGTH],
+    mut state: State,
+    mut rest: u32,
+) -> Typed
+    requires { ⌜ (length (now kept) ≡ 2 * chunk) × (count ≤ chunk) ⌝ }
+    requires { ⌜ CellsOk (fieldCell (now kept)) fieldKind count (now rows) (now index) state rest ⌝ }
+    ensures { λ r. ⌜ CellsMade (fieldCell (old kept)) count
+        (old rows) (old index) state rest
+        (final rows) (final index) r ⌝ }
+{
+    let mut left = count;
+    while 0 < left {
+        left -= 1;
+        let ty = kept[2 * left];
+        let name = kept[2 * left + 1];
+        let row = Row::Field { ty, rest, name };
+        let made = walk::make(rows, index, state, row);
+        rest = made.ty;
+        state = made.state;
+    }
+    Typed { ty: rest, state }
+}
+
+// The cells of some fields: the first are converted, then the others, and then the cells of the first are made.
 fn convert_fields(
     s: &[u8],
     pass: Pass,
@@ -328,21 +412,47 @@ fn convert_fields(
     if end <= fields.from {
         return Typed { ty: 0, state };
     }
-    let head = field_head(s, fields);
-    let at = fields.from + FIELD_END;
-    let level = fields.depth - 1;
-    let inner = Node { at, depth: level };
-    let field = convert_node_type(s, pass, work, inner, output, errors, rows, index, state);
-    let next = field.state;
-    let from = head.next;
+    let mut kept = [0u32; KEPT];
+    let first = convert_chunk(
+        s,
+        pass,
+        work,
+        fields,
+        &mut kept,
+        output,
+        errors,
+        rows,
+        index,
+        state,
+    );
+    let from = first.from;
     let depth = fields.depth;
-    let later = Nodes { from, end, depth };
-    let rest = convert_fields(s, pass, work, later, output, errors, rows, index, next);
-    let last = rest.state;
-    let cell = Row::Field {
-        ty: field.ty,
-        rest: rest.ty,
-        name: head.name,
-    };
-    walk::make(rows, index, last, cell)
+    let others = Nodes { from, end, depth };
+    let next = first.state;
+    let rest = convert_others(s, pass, work, others, output, errors, rows, index, next);
+    make_fields(&kept, first.count, rows, index, rest.state, rest.ty)
+}
+
+// The cells of the fields that are left. Mostly none is, and then nothing is called.
+fn convert_others(
+    s: &[u8],
+    pass: Pass,
+    work: &[u32],
+    fields: Nodes,
+    output: &mut [u8],
+    errors: &mut [u32],
+    rows: &mut [u32],
+    index: &mut [u16; row_index::LENGTH],
+    state: State,
+) -> Typed
+    requires { ⌜ FineNodes (now s) fields Fields ⌝ }
+    requires { ⌜ Ready (now s) (given work output errors rows index state) ⌝ }
+    ensures { λ r. ⌜ FieldsConverted (old s) pass fields
+        (before work output errors rows index state)
+        (after work output errors rows index (r .state)) (r .ty) ⌝ }
+{
+    if fields.end <= fields.from {
+        return Typed { ty: 0, state };
+    }
+    convert_fields(s, pass, work, fields, output, errors, rows, index, state)
 }

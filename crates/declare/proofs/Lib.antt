@@ -1,5 +1,6 @@
 pub mod Heads
 pub mod Parameters
+pub mod Chunks
 pub mod Globals
 pub mod Aliases
 pub mod Items

@@ -1,4 +1,5 @@
 // Pass 1 of `type_check_module`: the declared types of the items.
+use convert::Chunk;
 use convert::Pass;
 use convert::convert_node_type;
 use fallible::kinds::ALIAS_OF_BUILT_IN;
@@ -27,6 +28,7 @@ ghost use Prim.Native.Nat.{_*_, _≤_};
 ghost use lib.ListN.{length};
 ghost use Rattle.contract.specs.Moments.{old, final};
 ghost use Rattle.row_index.specs.Index.{Indexed};
+ghost use Rattle.types.specs.Ty.{argumentKind};
 ghost use Rattle.types.specs.Table.{Table, IsType};
 ghost use Rattle.shape.specs.Kinds as kinds;
 ghost use Rattle.shape.specs.Shape.{anItem};
@@ -37,6 +39,8 @@ ghost use Rattle.node.specs.Fine.{FineNode, FineNodes};
 ghost use Rattle.meaning.specs.Promise.{workWidth};
 ghost use Rattle.convert.specs.Post.{Ready};
 ghost use Rattle.walk.specs.Moments.{given, before, after};
+ghost use Rattle.walk.specs.Cells.{CellsMade, CellsOk};
+ghost use Rattle.declare.specs.Chunk.{chunk, argumentCell, HasParameter, ParametersChunk};
 ghost use Rattle.declare.specs.Declare.{aliasRow};
 ghost use Rattle.declare.specs.Post.{NamesOne, ParameterEnd, ConvertedParameters, ConvertedFunction};
 ghost use Rattle.declare.specs.Post.{InternalCompared, AliasStored, DeclaredNode, DeclaredNodes};
@@ -60,8 +64,79 @@ fn parameter_end(s: &[u8], list: Nodes) -> usize
     list.from + length_at(s, list.from)
 }
 
-// The cells of parameters, made from the last to the first.
-// At most some 1,600 calls are open at a time: a parameter has 40 bytes or more.
+// How many parameters are converted together; the type row of each is kept.
+const CHUNK: usize = 64;
+
+// The type rows of the first parameters, as many as have room.
+fn convert_chunk(
+    s: &[u8],
+    names: BuiltIns,
+    work: &[u32],
+    list: Nodes,
+    kept: &mut [u32; CHUNK],
+    output: &mut [u8],
+    errors: &mut [u32],
+    rows: &mut [u32],
+    index: &mut [u16; row_index::LENGTH],
+    mut state: State,
+) -> Chunk
+    requires { ⌜ FineNodes (now s) list Parameters × HasParameter (now s) list × (length (now kept) ≡ chunk) ⌝ }
+    requires { ⌜ Ready (now s) (given work output errors rows index state) ⌝ }
+    ensures { λ r. ⌜ ParametersChunk (old s) names list (final kept)
+        (before work output errors rows index state)
+        (after work output errors rows index (r .state)) r ⌝ }
+{
+    let end = list.end;
+    let depth = list.depth;
+    let pass = Pass { names, fill: false };
+    let mut count: usize = 0;
+    let mut from = list.from;
+    while count < CHUNK {
+        let next = parameter_end(s, Nodes { from, end, depth });
+        if next < 1 {
+            return Chunk { count, from, state };
+        }
+        let at = from + FIELD_END;
+        let level = depth - 1;
+        let node = Node { at, depth: level };
+        let parameter = convert_node_type(s, pass, work, node, output, errors, rows, index, state);
+        kept[count] = parameter.ty;
+        count += 1;
+        from = next;
+        state = parameter.state;
+    }
+    Chunk { count, from, state }
+}
+
+// The cells of so many parameters before the list `rest`, made from the last to the first.
+fn make_arguments(
+    kept: &[u32; CHUNK],
+    count: usize,
+    rows: &mut [u32],
+    index: &mut [u16; row_index::LENGTH],
+    mut state: State,
+    mut rest: u32,
+) -> Typed
+    requires { ⌜ (length (now kept) ≡ chunk) × (count ≤ chunk) ⌝ }
+    requires { ⌜ CellsOk (argumentCell (now kept)) argumentKind count (now rows) (now index) state rest ⌝ }
+    ensures { λ r. ⌜ CellsMade (argumentCell (old kept)) count
+        (old rows) (old index) state rest
+        (final rows) (final index) r ⌝ }
+{
+    let mut left = count;
+    while 0 < left {
+        left -= 1;
+        let ty = kept[left];
+        let row = Row::Argument { ty, rest };
+        let made = walk::make(rows, index, state, row);
+        rest = made.ty;
+        state = made.state;
+    }
+    Typed { ty: rest, state }
+}
+
+// The cells of parameters: the first are converted, then the others, and then the cells of the first are made.
+// The calls open at a time are bounded by the parameters over `CHUNK`.
 fn convert_parameters(
     s: &[u8],
     names: BuiltIns,
@@ -79,26 +154,53 @@ fn convert_parameters(
         (before work output errors rows index state)
         (after work output errors rows index (r .state)) (r .ty) ⌝ }
 {
-    let from = parameter_end(s, list);
-    if from < 1 {
+    if parameter_end(s, list) < 1 {
         return Typed { ty: 0, state };
     }
-    let at = list.from + FIELD_END;
-    let inner = list.depth - 1;
-    let node = Node { at, depth: inner };
-    let pass = Pass { names, fill: false };
-    let parameter = convert_node_type(s, pass, work, node, output, errors, rows, index, state);
+    let mut kept = [0u32; CHUNK];
+    let first = convert_chunk(
+        s,
+        names,
+        work,
+        list,
+        &mut kept,
+        output,
+        errors,
+        rows,
+        index,
+        state,
+    );
+    let from = first.from;
     let end = list.end;
     let depth = list.depth;
     let others = Nodes { from, end, depth };
-    let middle = parameter.state;
-    let rest = convert_parameters(s, names, work, others, output, errors, rows, index, middle);
-    let last = rest.state;
-    let row = Row::Argument {
-        ty: parameter.ty,
-        rest: rest.ty,
-    };
-    walk::make(rows, index, last, row)
+    let next = first.state;
+    let rest = convert_others(s, names, work, others, output, errors, rows, index, next);
+    make_arguments(&kept, first.count, rows, index, rest.state, rest.ty)
+}
+
+// The cells of the parameters that are left. Mostly none is, and then nothing is called.
+fn convert_others(
+    s: &[u8],
+    names: BuiltIns,
+    work: &[u32],
+    list: Nodes,
+    output: &mut [u8],
+    errors: &mut [u32],
+    rows: &mut [u32],
+    index: &mut [u16; row_index::LENGTH],
+    state: State,
+) -> Typed
+    requires { ⌜ FineNodes (now s) list Parameters ⌝ }
+    requires { ⌜ Ready (now s) (given work output errors rows index state) ⌝ }
+    ensures { λ r. ⌜ ConvertedParameters (old s) names list
+        (before work output errors rows index state)
+        (after work output errors rows index (r .state)) (r .ty) ⌝ }
+{
+    if parameter_end(s, list) < 1 {
+        return Typed { ty: 0, state };
+    }
+    convert_parameters(s, names, work, list, output, errors, rows, index, state)
 }
 
 // The type of a function: the returned type, then the cells of the parameters.

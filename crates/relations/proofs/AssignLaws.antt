@@ -24,6 +24,10 @@ assign-turn (node k a b z n) s = go (eqb k aliasKind) refl (assign-turn a s)
     go true e ih = rw e ih
     go false e ih = rw e
 
+-- One row on both sides, whatever aliases it has on top
+pub assign-one : (w : List ℕ) (to from : ℕ) (answer : Bool) → typesAreAssignable (unfolded w to) (unfolded w from) ≡ answer → to ≡ from → true ≡ answer
+assign-one w to from answer means e = sym (sym means ∙ assign-turn (unfolded w to) (unfolded w from) ∙ rw (← e, same-refl))
+
 -- The rows t and s are what the rows `to` and `from` desugar to, and the answer is theirs
 module _ (w : List ℕ) (count : ℕ) (table : Table w count) (to from t s : ℕ) (answer : Bool)
     (means : typesAreAssignable (unfolded w to) (unfolded w from) ≡ answer)

@@ -49,6 +49,9 @@ pub fn types_are_assignable(rows: &[u32], count: u32, target: u32, source: u32) 
     let mut to = target;
     let mut from = source;
     loop {
+        if to == from {
+            return true;
+        }
         let t = types::desugar(rows, count, to);
         let s = types::desugar(rows, count, from);
         if t == s {

@@ -6,3 +6,4 @@ pub mod Telling
 pub mod Scopes
 pub mod Ends
 pub mod Slots
+pub mod Cells

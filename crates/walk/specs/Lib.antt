@@ -3,3 +3,4 @@ pub mod Words
 pub mod Represents
 pub mod Post
 pub mod Moments
+pub mod Cells

@@ -21,17 +21,8 @@ add-word c = search chains.slot-small
 word-requires : tie.Need-word-requires Inv-loop μ-loop
 word-requires c κs = search tables.tally-word
 
-cast-i : tie.Need-cast-i Inv-loop μ-loop
-cast-i c = search needs
-
-element-copy-out-count : tie.Need-element-copy-out-count Inv-loop μ-loop
-element-copy-out-count c = search needs
-
-up-to-two-requires : tie.Need-up-to-two-requires Inv-loop μ-loop
-up-to-two-requires c κs = search needs
-
-element-write-table : tie.Need-element-write-table Inv-loop μ-loop
-element-write-table c = search needs
+count-name-requires : tie.Need-count-name-requires Inv-loop μ-loop
+count-name-requires c κs = search needs
 
 length-at-requires : tie.Need-length-at-requires Inv-loop μ-loop
 length-at-requires c κs = search chains.head-inside
@@ -57,10 +48,7 @@ count-names-spec =
     loop-holds
     add-word
     word-requires
-    cast-i
-    element-copy-out-count
-    up-to-two-requires
-    element-write-table
+    count-name-requires
     length-at-requires
     add-at
     loop-less

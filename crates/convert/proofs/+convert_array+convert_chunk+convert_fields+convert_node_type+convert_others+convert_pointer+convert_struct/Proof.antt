@@ -1,8 +1,12 @@
 -- `convert_node_type`, `convert_fields` and the functions of the kinds with parts call each other with the depth falling; in a list the bytes left fall.
 -- Assumes nothing.
 use Rattle.convert.proofs.Laws as laws
+use Rattle.convert.proofs.Chunks as chunks
 use Rattle.convert.proofs.Heads as heads
-use mathlib.Core.Path.{sym, _∙_}
+use Rattle.convert.specs.Chunk.{chunk, FieldsConvertedTo}
+use Rattle.walk.specs.Represents.{lent}
+use lib.ListN.{length}
+use mathlib.Core.Path.{_≡_, refl, sym, _∙_}
 use native.Mathlib.Omega.{arith}
 use borrow.Author.Needs.{needs}
 use Prim.Native.Nat.{ℕ, _+_, _-_, _*_, _<_}
@@ -10,44 +14,60 @@ use borrow.Fn.Kinds.{In}
 use borrow.Fn.PlainCycle.{Measures, is, falls, and}
 use Rattle.convert.proofs.convert_array.Reads as convert-array
 use Rattle.convert.proofs.convert_array.Kinds as convert-array-kinds
-use Rattle.convert.proofs.+convert_array+convert_fields+convert_node_type+convert_pointer+convert_struct.Lts-convert_array as convert-array-lts
+use Rattle.convert.proofs.+convert_array+convert_chunk+convert_fields+convert_node_type+convert_others+convert_pointer+convert_struct.Lts-convert_array as convert-array-lts
+use Rattle.convert.proofs.convert_chunk.Reads as convert-chunk
+use Rattle.convert.proofs.convert_chunk.Kinds as convert-chunk-kinds
+use Rattle.convert.proofs.+convert_array+convert_chunk+convert_fields+convert_node_type+convert_others+convert_pointer+convert_struct.Lts-convert_chunk as convert-chunk-lts
 use Rattle.convert.proofs.convert_fields.Reads as convert-fields
 use Rattle.convert.proofs.convert_fields.Kinds as convert-fields-kinds
-use Rattle.convert.proofs.+convert_array+convert_fields+convert_node_type+convert_pointer+convert_struct.Lts-convert_fields as convert-fields-lts
+use Rattle.convert.proofs.+convert_array+convert_chunk+convert_fields+convert_node_type+convert_others+convert_pointer+convert_struct.Lts-convert_fields as convert-fields-lts
 use Rattle.convert.proofs.convert_node_type.Reads as convert-node-type
 use Rattle.convert.proofs.convert_node_type.Kinds as convert-node-type-kinds
-use Rattle.convert.proofs.+convert_array+convert_fields+convert_node_type+convert_pointer+convert_struct.Lts-convert_node_type as convert-node-type-lts
+use Rattle.convert.proofs.+convert_array+convert_chunk+convert_fields+convert_node_type+convert_others+convert_pointer+convert_struct.Lts-convert_node_type as convert-node-type-lts
+use Rattle.convert.proofs.convert_others.Reads as convert-others
+use Rattle.convert.proofs.convert_others.Kinds as convert-others-kinds
+use Rattle.convert.proofs.+convert_array+convert_chunk+convert_fields+convert_node_type+convert_others+convert_pointer+convert_struct.Lts-convert_others as convert-others-lts
 use Rattle.convert.proofs.convert_pointer.Reads as convert-pointer
 use Rattle.convert.proofs.convert_pointer.Kinds as convert-pointer-kinds
-use Rattle.convert.proofs.+convert_array+convert_fields+convert_node_type+convert_pointer+convert_struct.Lts-convert_pointer as convert-pointer-lts
+use Rattle.convert.proofs.+convert_array+convert_chunk+convert_fields+convert_node_type+convert_others+convert_pointer+convert_struct.Lts-convert_pointer as convert-pointer-lts
 use Rattle.convert.proofs.convert_struct.Reads as convert-struct
 use Rattle.convert.proofs.convert_struct.Kinds as convert-struct-kinds
-use Rattle.convert.proofs.+convert_array+convert_fields+convert_node_type+convert_pointer+convert_struct.Lts-convert_struct as convert-struct-lts
+use Rattle.convert.proofs.+convert_array+convert_chunk+convert_fields+convert_node_type+convert_others+convert_pointer+convert_struct.Lts-convert_struct as convert-struct-lts
 use Rattle.convert.proofs.field_head.Reads as field-head-reads
+use Rattle.convert.proofs.make_fields.Reads as make-fields-reads
 use Rattle.convert.proofs.named_type.Reads as named-type-reads
 use Rattle.convert.proofs.settle.Reads as settle-reads
 use Rattle.convert.proofs.settle_row.Reads as settle-row-reads
 use Rattle.convert.proofs.type_kind.Reads as type-kind-reads
 use Rattle.node.proofs.bytes.length_at.Reads as length-at-reads
 use Rattle.node.proofs.bytes.word.Reads as word-reads
-use Rattle.walk.proofs.make.Reads as make-reads
-use Rattle.convert.proofs.+convert_array+convert_fields+convert_node_type+convert_pointer+convert_struct.{statement}
-use Rattle.convert.proofs.+convert_array+convert_fields+convert_node_type+convert_pointer+convert_struct.Tie.{close}
+use Rattle.convert.proofs.+convert_array+convert_chunk+convert_fields+convert_node_type+convert_others+convert_pointer+convert_struct.{
+  statement,
+}
+use Rattle.convert.proofs.+convert_array+convert_chunk+convert_fields+convert_node_type+convert_others+convert_pointer+convert_struct.Tie.{
+  close,
+}
 
 abbrev μ-convert-array : Measures 6 convert-array-kinds.ps ℕ
-μ-convert-array κs a = a .1 .1 .1 .0 .depth * 131072
+μ-convert-array κs a = a .1 .1 .1 .0 .depth * 262144
+
+abbrev μ-convert-chunk : Measures 7 convert-chunk-kinds.ps ℕ
+μ-convert-chunk κs a = a .1 .1 .1 .0 .depth * 262144
 
 abbrev μ-convert-fields : Measures 6 convert-fields-kinds.ps ℕ
-μ-convert-fields κs a = a .1 .1 .1 .0 .depth * 131072 + (a .1 .1 .1 .0 .end - a .1 .1 .1 .0 .from) + 1
+μ-convert-fields κs a = a .1 .1 .1 .0 .depth * 262144 + 2 * (a .1 .1 .1 .0 .end - a .1 .1 .1 .0 .from) + 1
 
 abbrev μ-convert-node-type : Measures 6 convert-node-type-kinds.ps ℕ
-μ-convert-node-type κs a = a .1 .1 .1 .0 .depth * 131072 + 1
+μ-convert-node-type κs a = a .1 .1 .1 .0 .depth * 262144 + 1
+
+abbrev μ-convert-others : Measures 6 convert-others-kinds.ps ℕ
+μ-convert-others κs a = a .1 .1 .1 .0 .depth * 262144 + 2 * (a .1 .1 .1 .0 .end - a .1 .1 .1 .0 .from) + 2
 
 abbrev μ-convert-pointer : Measures 6 convert-pointer-kinds.ps ℕ
-μ-convert-pointer κs a = a .1 .1 .1 .0 .depth * 131072
+μ-convert-pointer κs a = a .1 .1 .1 .0 .depth * 262144
 
 abbrev μ-convert-struct : Measures 6 convert-struct-kinds.ps ℕ
-μ-convert-struct κs a = a .1 .1 .1 .0 .depth * 131072
+μ-convert-struct κs a = a .1 .1 .1 .0 .depth * 262144
 
 abbrev convert-array-at : ℕ → In 6 convert-array-kinds.ps
 convert-array-at t =
@@ -60,6 +80,18 @@ convert-array-below t =
     convert-array-kinds.ps
     (falls 6 convert-array-kinds.ps _<_ μ-convert-array t)
     convert-array.Pre
+
+abbrev convert-chunk-at : ℕ → In 7 convert-chunk-kinds.ps
+convert-chunk-at t =
+    and 7 convert-chunk-kinds.ps (is 7 convert-chunk-kinds.ps μ-convert-chunk t) convert-chunk.Pre
+
+abbrev convert-chunk-below : ℕ → In 7 convert-chunk-kinds.ps
+convert-chunk-below t =
+    and
+    7
+    convert-chunk-kinds.ps
+    (falls 7 convert-chunk-kinds.ps _<_ μ-convert-chunk t)
+    convert-chunk.Pre
 
 abbrev convert-fields-at : ℕ → In 6 convert-fields-kinds.ps
 convert-fields-at t =
@@ -92,6 +124,22 @@ convert-node-type-below t =
     convert-node-type-kinds.ps
     (falls 6 convert-node-type-kinds.ps _<_ μ-convert-node-type t)
     convert-node-type.Pre
+
+abbrev convert-others-at : ℕ → In 6 convert-others-kinds.ps
+convert-others-at t =
+    and
+    6
+    convert-others-kinds.ps
+    (is 6 convert-others-kinds.ps μ-convert-others t)
+    convert-others.Pre
+
+abbrev convert-others-below : ℕ → In 6 convert-others-kinds.ps
+convert-others-below t =
+    and
+    6
+    convert-others-kinds.ps
+    (falls 6 convert-others-kinds.ps _<_ μ-convert-others t)
+    convert-others.Pre
 
 abbrev convert-pointer-at : ℕ → In 6 convert-pointer-kinds.ps
 convert-pointer-at t =
@@ -135,16 +183,22 @@ convert-array-claims t = (
   settle-row-reads.Learnt,
 )
 
-abbrev convert-fields-claims : ℕ → convert-fields-lts.Claims
-convert-fields-claims t = (
+abbrev convert-chunk-claims : ℕ → convert-chunk-lts.Claims
+convert-chunk-claims t = (
   field-head-reads.Asked,
   field-head-reads.Learnt,
   convert-node-type-below t,
   convert-node-type.Post,
-  convert-fields-below t,
-  convert-fields.Post,
-  make-reads.Asked,
-  make-reads.Learnt,
+)
+
+abbrev convert-fields-claims : ℕ → convert-fields-lts.Claims
+convert-fields-claims t = (
+  convert-chunk-below t,
+  convert-chunk.Post,
+  convert-others-below t,
+  convert-others.Post,
+  make-fields-reads.Asked,
+  make-fields-reads.Learnt,
 )
 
 abbrev convert-node-type-claims : ℕ → convert-node-type-lts.Claims
@@ -161,6 +215,12 @@ convert-node-type-claims t = (
   convert-array.Post,
   convert-struct-below t,
   convert-struct.Post,
+)
+
+abbrev convert-others-claims : ℕ → convert-others-lts.Claims
+convert-others-claims t = (
+  convert-fields-below t,
+  convert-fields.Post,
 )
 
 abbrev convert-pointer-claims : ℕ → convert-pointer-lts.Claims
@@ -219,48 +279,112 @@ convert-array-same-length-3 t c = search needs
 convert-array-returns : (t : ℕ) → convert-array-lts.Need-returns (convert-array-claims t) (convert-array-at t) convert-array.Post
 convert-array-returns t c = laws.converted-array _ _ _ _ _ (c .before .before .before .before .before .before .before .before .before .before .before .before .before .before .before .before .before .before .before .before .before .before .before .before .before .before .before .before .before .pre .1 .0) _ _ _ _ _ (c .before .before .before .before .before .before .before .before .before .before .before .before .before .before .before .before .before .before .before .before .before .before .before .before .before .before .before .before .before .pre .1 .1 .1) _ _ _ (c .before .before .before .before .before .before .before .before .before .before .before .before .before .before .before .convert-node-type .result) (c .before .before .before .before .before .before .before .before .before .before .before .before .before .before .before .before .before .before .before .before .before .before .before .before .before .before .before .before .before .pre .1 .1 .0) _ (c .before .before .before .before .before .before .before .before .before .before .before .before .before .before .before .before .before .before .before .before .before .before .word .ensures) (c .before .before .before .before .before .before .before .before .before .before .before .before .before .before .before .convert-node-type .ensures) _ _ _ (c .before .before .before .before .settle-row .ensures)
 
-convert-fields-returns : (t : ℕ) → convert-fields-lts.Need-returns (convert-fields-claims t) (convert-fields-at t) convert-fields.Post
-convert-fields-returns t c = laws.fields-end _ _ _ _ _ _ (c .before .before .before .before .before .before .before .pre .1 .0) _ _ _ _ _ (c .before .before .before .before .before .before .before .pre .1 .1) (c .if1 .taken)
+abbrev convert-chunk-Inv-loop : convert-chunk-lts.InvT-loop
+convert-chunk-Inv-loop s pass work kept₀ output₀ errors₀ rows₀ index₀ state₀ end depth count₀ from₀ kept output errors rows index state count from =
+    FieldsConvertedTo s pass (record { from = from₀; end = end; depth = depth }) kept (lent work output₀ errors₀ rows₀ index₀ state₀) (lent work output errors rows index state) count from
+    × (length output ≡ length output₀) × (length errors ≡ length errors₀) × (length rows ≡ length rows₀)
 
-convert-fields-field-head-requires : (t : ℕ) → convert-fields-lts.Need-field-head-requires (convert-fields-claims t) (convert-fields-at t) convert-fields.Post
-convert-fields-field-head-requires t c κs = (c .before .before .before .before .before .before .before .pre .1 .0, c .if1 .left)
+abbrev convert-chunk-μ-loop : convert-chunk-lts.MeasureT-loop
+convert-chunk-μ-loop s pass work kept₀ output₀ errors₀ rows₀ index₀ state₀ end depth count₀ from₀ kept output errors rows index state count from = chunk - count
 
-convert-fields-add-at : (t : ℕ) → convert-fields-lts.Need-add-at (convert-fields-claims t) (convert-fields-at t) convert-fields.Post
-convert-fields-add-at t c = search needs
+convert-chunk-loop-holds : (t : ℕ) → convert-chunk-lts.Need-loop-holds (convert-chunk-claims t) (convert-chunk-at t) convert-chunk.Post convert-chunk-Inv-loop convert-chunk-μ-loop
+convert-chunk-loop-holds t c = (chunks.converted-start _ _ _ _ _ (c .before .before .before .before .before .pre .1 .0 .0) (c .before .before .before .before .before .pre .1 .1) (c .before .before .before .before .before .pre .1 .0 .2), refl, refl, refl)
 
-convert-fields-sub-level : (t : ℕ) → convert-fields-lts.Need-sub-level (convert-fields-claims t) (convert-fields-at t) convert-fields.Post
-convert-fields-sub-level t c = search needs
+convert-chunk-same-length : (t : ℕ) → convert-chunk-lts.Need-same-length (convert-chunk-claims t) (convert-chunk-at t) convert-chunk.Post convert-chunk-Inv-loop convert-chunk-μ-loop
+convert-chunk-same-length t c = search needs
 
-convert-fields-convert-node-type-requires :
-    (t : ℕ) → convert-fields-lts.Need-convert-node-type-requires (
+convert-chunk-same-length-2 : (t : ℕ) → convert-chunk-lts.Need-same-length-2 (convert-chunk-claims t) (convert-chunk-at t) convert-chunk.Post convert-chunk-Inv-loop convert-chunk-μ-loop
+convert-chunk-same-length-2 t c = search needs
+
+convert-chunk-same-length-3 : (t : ℕ) → convert-chunk-lts.Need-same-length-3 (convert-chunk-claims t) (convert-chunk-at t) convert-chunk.Post convert-chunk-Inv-loop convert-chunk-μ-loop
+convert-chunk-same-length-3 t c = search needs
+
+convert-chunk-returns : (t : ℕ) → convert-chunk-lts.Need-returns (convert-chunk-claims t) (convert-chunk-at t) convert-chunk.Post convert-chunk-Inv-loop convert-chunk-μ-loop
+convert-chunk-returns t c = record { to = c .before .before .loop .inv .0; some = omega (arith, c .if1 .taken, c .before .before .before .before .before .before .before .before .pre .1 .0 .1) }
+
+convert-chunk-field-head-requires : (t : ℕ) → convert-chunk-lts.Need-field-head-requires (convert-chunk-claims t) (convert-chunk-at t) convert-chunk.Post convert-chunk-Inv-loop convert-chunk-μ-loop
+convert-chunk-field-head-requires t c κs = (c .before .before .loop .inv .0 .fine, c .if1 .left)
+
+convert-chunk-add-at : (t : ℕ) → convert-chunk-lts.Need-add-at (convert-chunk-claims t) (convert-chunk-at t) convert-chunk.Post convert-chunk-Inv-loop convert-chunk-μ-loop
+convert-chunk-add-at t c = omega (arith, c .field-head .ensures)
+
+convert-chunk-sub-level : (t : ℕ) → convert-chunk-lts.Need-sub-level (convert-chunk-claims t) (convert-chunk-at t) convert-chunk.Post convert-chunk-Inv-loop convert-chunk-μ-loop
+convert-chunk-sub-level t c = omega (arith, c .field-head .ensures)
+
+convert-chunk-convert-node-type-requires :
+    (t : ℕ) → convert-chunk-lts.Need-convert-node-type-requires (
       field-head-reads.Asked,
       field-head-reads.Learnt,
       convert-node-type-below t,
       convert-node-type.Post,
-      convert-fields-below t,
-      convert-fields.Post,
-      make-reads.Asked,
-      make-reads.Learnt,
-    ) (convert-fields-at t) convert-fields.Post
-convert-fields-convert-node-type-requires t c κs = (omega arith, (heads.type-fine _ _ _ _ (c .before .before .before .before .before .before .before .before .before .before .before .before .before .before .pre .1 .0) (c .before .before .before .before .before .before .before .if1 .left), c .before .before .before .before .before .before .before .before .before .before .before .before .before .before .pre .1 .1))
+    ) (convert-chunk-at t) convert-chunk.Post convert-chunk-Inv-loop convert-chunk-μ-loop
+convert-chunk-convert-node-type-requires t c κs = (omega (arith, c .before .before .before .before .before .before .before .before .before .before .before .before .before .pre .0, c .before .before .before .before .field-head .ensures), (heads.type-fine _ _ _ _ (c .before .before .before .before .before .before .before .loop .inv .0 .fine) (c .before .before .before .before .before .if1 .left), c .before .before .before .before .before .before .before .loop .inv .0 .ready))
 
-convert-fields-convert-fields-requires : (t : ℕ) → convert-fields-lts.Need-convert-fields-requires (convert-fields-claims t) (convert-fields-at t) convert-fields.Post
-convert-fields-convert-fields-requires t c κs = (omega (arith, c .before .before .before .before .before .before .before .before .before .before .before .before .before .before .before .before .before .before .before .before .before .before .before .before .before .before .pre .0, c .before .before .before .before .before .before .before .before .before .before .before .before .before .before .before .before .before .before .field-head .ensures), (heads.rest-fine _ _ _ _ (c .before .before .before .before .before .before .before .before .before .before .before .before .before .before .before .before .before .before .before .before .before .before .before .before .before .before .pre .1 .0) (c .before .before .before .before .before .before .before .before .before .before .before .before .before .before .before .before .before .before .before .if1 .left) _ (c .before .before .before .before .before .before .before .before .before .before .before .before .before .before .before .before .before .before .field-head .ensures .next), heads.ready-later (c .before .before .before .before .before .before .before .before .before .before .before .before .before .before .before .before .before .before .before .before .before .before .before .before .before .before .pre .1 .1) (c .before .before .before .before .before .before .before .before .before .before .before .convert-node-type .ensures .walked .walked .grew) (c .before .before .before .before .before .before .before .before .before .before .before .convert-node-type .ensures .walked .walked .frame .long)))
+convert-chunk-mul-kept : (t : ℕ) → convert-chunk-lts.Need-mul-kept (convert-chunk-claims t) (convert-chunk-at t) convert-chunk.Post convert-chunk-Inv-loop convert-chunk-μ-loop
+convert-chunk-mul-kept t c = omega (arith, c .before .before .before .before .before .before .before .before .before .before .before .before .before .before .loop .inv .0 .long, c .before .before .before .before .before .before .before .before .before .before .before .before .before .loop-test .taken)
 
-convert-fields-make-requires : (t : ℕ) → convert-fields-lts.Need-make-requires (convert-fields-claims t) (convert-fields-at t) convert-fields.Post
-convert-fields-make-requires t c κs = (laws.cell-ok _ _ _ _ _ _ (c .before .before .before .before .before .before .before .before .before .before .before .before .before .before .before .before .before .before .before .before .before .before .before .before .before .before .before .before .before .before .before .before .before .before .before .before .pre .1 .0) _ _ _ _ _ (c .before .before .before .before .before .before .before .before .before .before .before .before .before .before .before .before .before .before .before .before .before .before .before .before .before .before .before .before .before .before .before .before .before .before .before .before .pre .1 .1) (c .before .before .before .before .before .before .before .before .before .before .before .before .before .before .before .before .before .before .before .before .before .before .before .before .before .before .before .before .before .if1 .left) _ (c .before .before .before .before .before .before .before .before .before .before .before .before .before .before .before .before .before .before .before .before .before .before .before .before .before .before .before .before .field-head .ensures) _ _ _ (c .before .before .before .before .before .before .before .before .before .before .before .before .before .before .before .before .before .before .before .before .before .convert-node-type .result) (c .before .before .before .before .before .before .before .before .before .before .before .before .before .before .before .before .before .before .before .before .before .convert-node-type .ensures) _ _ _ (c .before .before .before .before .before .before .before .before .before .convert-fields .result) (c .before .before .before .before .before .before .before .before .before .convert-fields .ensures), c .before .before .before .before .before .before .before .before .before .convert-fields .ensures .walked .grew .good .indexed)
+convert-chunk-mul-kept-2 : (t : ℕ) → convert-chunk-lts.Need-mul-kept-2 (convert-chunk-claims t) (convert-chunk-at t) convert-chunk.Post convert-chunk-Inv-loop convert-chunk-μ-loop
+convert-chunk-mul-kept-2 t c = omega (arith, c .before .before .before .before .before .before .before .before .before .before .before .before .before .before .loop .inv .0 .long, c .before .before .before .before .before .before .before .before .before .before .before .before .before .loop-test .taken)
+
+convert-chunk-element-write-kept : (t : ℕ) → convert-chunk-lts.Need-element-write-kept (convert-chunk-claims t) (convert-chunk-at t) convert-chunk.Post convert-chunk-Inv-loop convert-chunk-μ-loop
+convert-chunk-element-write-kept t c = omega (arith, c .before .before .before .before .before .before .before .before .before .before .before .before .before .before .loop .inv .0 .long, c .before .before .before .before .before .before .before .before .before .before .before .before .before .loop-test .taken)
+
+convert-chunk-mul-kept-3 : (t : ℕ) → convert-chunk-lts.Need-mul-kept-3 (convert-chunk-claims t) (convert-chunk-at t) convert-chunk.Post convert-chunk-Inv-loop convert-chunk-μ-loop
+convert-chunk-mul-kept-3 t c = omega (arith, c .before .before .before .before .before .before .before .before .before .before .before .before .before .before .loop .inv .0 .long, c .before .before .before .before .before .before .before .before .before .before .before .before .before .loop-test .taken)
+
+convert-chunk-add-kept : (t : ℕ) → convert-chunk-lts.Need-add-kept (convert-chunk-claims t) (convert-chunk-at t) convert-chunk.Post convert-chunk-Inv-loop convert-chunk-μ-loop
+convert-chunk-add-kept t c = omega (arith, c .before .before .before .before .before .before .before .before .before .before .before .before .before .before .loop .inv .0 .long, c .before .before .before .before .before .before .before .before .before .before .before .before .before .loop-test .taken)
+
+convert-chunk-mul-kept-4 : (t : ℕ) → convert-chunk-lts.Need-mul-kept-4 (convert-chunk-claims t) (convert-chunk-at t) convert-chunk.Post convert-chunk-Inv-loop convert-chunk-μ-loop
+convert-chunk-mul-kept-4 t c = omega (arith, c .before .before .before .before .before .before .before .before .before .before .before .before .before .before .loop .inv .0 .long, c .before .before .before .before .before .before .before .before .before .before .before .before .before .loop-test .taken)
+
+convert-chunk-element-write-kept-2 : (t : ℕ) → convert-chunk-lts.Need-element-write-kept-2 (convert-chunk-claims t) (convert-chunk-at t) convert-chunk.Post convert-chunk-Inv-loop convert-chunk-μ-loop
+convert-chunk-element-write-kept-2 t c = omega (arith, c .before .before .before .before .before .before .before .before .before .before .before .before .before .before .loop .inv .0 .long, c .before .before .before .before .before .before .before .before .before .before .before .before .before .loop-test .taken)
+
+convert-chunk-add-count : (t : ℕ) → convert-chunk-lts.Need-add-count (convert-chunk-claims t) (convert-chunk-at t) convert-chunk.Post convert-chunk-Inv-loop convert-chunk-μ-loop
+convert-chunk-add-count t c = omega (arith, c .before .before .before .before .before .before .before .before .before .before .before .before .before .before .loop .inv .0 .long, c .before .before .before .before .before .before .before .before .before .before .before .before .before .loop-test .taken)
+
+convert-chunk-loop-less : (t : ℕ) → convert-chunk-lts.Need-loop-less (convert-chunk-claims t) (convert-chunk-at t) convert-chunk.Post convert-chunk-Inv-loop convert-chunk-μ-loop
+convert-chunk-loop-less t c = omega (arith, c .before .before .before .before .before .before .before .before .before .before .before .before .before .before .loop-test .taken)
+
+convert-chunk-loop-again : (t : ℕ) → convert-chunk-lts.Need-loop-again (convert-chunk-claims t) (convert-chunk-at t) convert-chunk.Post convert-chunk-Inv-loop convert-chunk-μ-loop
+convert-chunk-loop-again t c = (chunks.converted-on _ _ _ _ _ _ _ _ _ _ _ _ _ _ _ _ _ (c .before .before .before .before .before .before .before .before .before .before .before .before .before .before .before .loop .inv .0) (c .before .before .before .before .before .before .before .before .before .before .before .before .before .before .loop-test .taken) (c .before .before .before .before .before .before .before .before .before .before .before .before .before .if1 .left) (c .before .before .before .before .before .before .before .before .before .before .before .before .field-head .result) (c .before .before .before .before .before .before .before .before .before .before .before .before .field-head .ensures) _ _ _ _ (c .before .before .before .before .before .before .before .convert-node-type .result) (c .before .before .before .before .before .before .before .convert-node-type .ensures), c .before .before .before .before .before .before .before .convert-node-type .kept .1 .1 .1 .1 .0 ∙ c .before .before .before .before .before .before .before .before .before .before .before .before .before .before .before .loop .inv .1, c .before .before .before .before .before .before .before .convert-node-type .kept .1 .1 .1 .1 .1 .0 ∙ c .before .before .before .before .before .before .before .before .before .before .before .before .before .before .before .loop .inv .2, c .before .before .before .before .before .before .before .convert-node-type .kept .1 .1 .1 .1 .1 .1 .0 ∙ c .before .before .before .before .before .before .before .before .before .before .before .before .before .before .before .loop .inv .3)
+
+convert-chunk-same-length-4 : (t : ℕ) → convert-chunk-lts.Need-same-length-4 (convert-chunk-claims t) (convert-chunk-at t) convert-chunk.Post convert-chunk-Inv-loop convert-chunk-μ-loop
+convert-chunk-same-length-4 t c = search needs
+
+convert-chunk-same-length-5 : (t : ℕ) → convert-chunk-lts.Need-same-length-5 (convert-chunk-claims t) (convert-chunk-at t) convert-chunk.Post convert-chunk-Inv-loop convert-chunk-μ-loop
+convert-chunk-same-length-5 t c = search needs
+
+convert-chunk-same-length-6 : (t : ℕ) → convert-chunk-lts.Need-same-length-6 (convert-chunk-claims t) (convert-chunk-at t) convert-chunk.Post convert-chunk-Inv-loop convert-chunk-μ-loop
+convert-chunk-same-length-6 t c = search needs
+
+convert-chunk-returns-2 : (t : ℕ) → convert-chunk-lts.Need-returns-2 (convert-chunk-claims t) (convert-chunk-at t) convert-chunk.Post convert-chunk-Inv-loop convert-chunk-μ-loop
+convert-chunk-returns-2 t c = record { to = c .before .loop .inv .0; some = omega (arith, c .before .loop .inv .0 .on, c .loop-test .left) }
+
+convert-fields-returns : (t : ℕ) → convert-fields-lts.Need-returns (convert-fields-claims t) (convert-fields-at t) convert-fields.Post
+convert-fields-returns t c = laws.fields-end _ _ _ _ _ _ (c .before .before .before .before .before .before .before .pre .1 .0) _ _ _ _ _ (c .before .before .before .before .before .before .before .pre .1 .1) (c .if1 .taken)
+
+convert-fields-convert-chunk-requires : (t : ℕ) → convert-fields-lts.Need-convert-chunk-requires (convert-fields-claims t) (convert-fields-at t) convert-fields.Post
+convert-fields-convert-chunk-requires t c κs = (omega (arith, c .before .before .before .before .before .before .before .before .before .before .before .before .pre .0), ((c .before .before .before .before .before .before .before .before .before .before .before .before .pre .1 .0, c .before .before .before .before .before .if1 .left, search needs), c .before .before .before .before .before .before .before .before .before .before .before .before .pre .1 .1))
+
+convert-fields-convert-others-requires : (t : ℕ) → convert-fields-lts.Need-convert-others-requires (convert-fields-claims t) (convert-fields-at t) convert-fields.Post
+convert-fields-convert-others-requires t c κs = (omega (arith, c .before .before .before .before .before .before .before .before .before .before .before .before .before .before .before .before .before .before .before .before .before .before .before .before .pre .0, c .before .before .before .before .before .before .before .before .before .before .before .convert-chunk .ensures .some, c .before .before .before .before .before .before .before .before .before .before .before .before .before .before .before .before .before .if1 .left), (c .before .before .before .before .before .before .before .before .before .before .before .convert-chunk .ensures .to .fine, c .before .before .before .before .before .before .before .before .before .before .before .convert-chunk .ensures .to .ready))
+
+convert-fields-make-fields-requires : (t : ℕ) → convert-fields-lts.Need-make-fields-requires (convert-fields-claims t) (convert-fields-at t) convert-fields.Post
+convert-fields-make-fields-requires t c κs = ((c .before .before .before .before .before .before .before .before .before .before .before .before .before .before .before .before .before .before .before .before .before .convert-chunk .ensures .to .long, c .before .before .before .before .before .before .before .before .before .before .before .before .before .before .before .before .before .before .before .before .before .convert-chunk .ensures .to .few), chunks.cells-ok _ _ _ _ _ _ _ _ _ _ (c .before .before .before .before .before .before .before .before .before .before .before .before .before .before .before .before .before .before .before .before .before .convert-chunk .result) (c .before .before .before .before .before .before .before .before .before .before .before .before .before .before .before .before .before .before .before .before .before .convert-chunk .ensures) _ _ _ _ (c .before .before .before .before .before .before .before .before .before .convert-others .result) (c .before .before .before .before .before .before .before .before .before .convert-others .ensures))
 
 convert-fields-same-length : (t : ℕ) → convert-fields-lts.Need-same-length (convert-fields-claims t) (convert-fields-at t) convert-fields.Post
-convert-fields-same-length t c = omega (arith, c .before .before .before .before .before .before .before .before .before .before .before .before .before .before .before .before .before .before .before .before .before .before .before .before .convert-node-type .kept .1 .1 .1 .1 .0, c .before .before .before .before .before .before .before .before .before .before .before .before .convert-fields .kept .1 .1 .1 .1 .0)
+convert-fields-same-length t c = omega (arith, c .before .before .before .before .before .before .before .before .before .before .before .before .before .before .before .before .before .before .before .before .before .before .before .before .convert-chunk .kept .1 .1 .1 .1 .1 .0, c .before .before .before .before .before .before .before .before .before .before .before .before .convert-others .kept .1 .1 .1 .1 .0)
 
 convert-fields-same-length-2 : (t : ℕ) → convert-fields-lts.Need-same-length-2 (convert-fields-claims t) (convert-fields-at t) convert-fields.Post
-convert-fields-same-length-2 t c = omega (arith, c .before .before .before .before .before .before .before .before .before .before .before .before .before .before .before .before .before .before .before .before .before .before .before .before .convert-node-type .kept .1 .1 .1 .1 .1 .0, c .before .before .before .before .before .before .before .before .before .before .before .before .convert-fields .kept .1 .1 .1 .1 .1 .0)
+convert-fields-same-length-2 t c = omega (arith, c .before .before .before .before .before .before .before .before .before .before .before .before .before .before .before .before .before .before .before .before .before .before .before .before .convert-chunk .kept .1 .1 .1 .1 .1 .1 .0, c .before .before .before .before .before .before .before .before .before .before .before .before .convert-others .kept .1 .1 .1 .1 .1 .0)
 
 convert-fields-same-length-3 : (t : ℕ) → convert-fields-lts.Need-same-length-3 (convert-fields-claims t) (convert-fields-at t) convert-fields.Post
-convert-fields-same-length-3 t c = omega (arith, c .before .before .before .before .before .before .before .before .before .before .before .before .before .before .before .before .before .before .before .before .before .before .before .before .convert-node-type .kept .1 .1 .1 .1 .1 .1 .0, c .before .before .before .before .before .before .before .before .before .before .before .before .convert-fields .kept .1 .1 .1 .1 .1 .1 .0, c .before .before .make .kept .0)
+convert-fields-same-length-3 t c = omega (arith, c .before .before .before .before .before .before .before .before .before .before .before .before .before .before .before .before .before .before .before .before .before .before .before .before .convert-chunk .kept .1 .1 .1 .1 .1 .1 .1 .0, c .before .before .before .before .before .before .before .before .before .before .before .before .convert-others .kept .1 .1 .1 .1 .1 .1 .0, c .before .before .make-fields .kept .1 .1 .0)
 
 convert-fields-returns-2 : (t : ℕ) → convert-fields-lts.Need-returns-2 (convert-fields-claims t) (convert-fields-at t) convert-fields.Post
-convert-fields-returns-2 t c = laws.fields-cell _ _ _ _ _ _ (c .before .before .before .before .before .before .before .before .before .before .before .before .before .before .before .before .before .before .before .before .before .before .before .before .before .before .before .before .before .before .before .before .before .before .before .before .before .before .before .pre .1 .0) _ _ _ _ _ (c .before .before .before .before .before .before .before .before .before .before .before .before .before .before .before .before .before .before .before .before .before .before .before .before .before .before .before .before .before .before .before .before .before .before .before .before .before .before .before .pre .1 .1) (c .before .before .before .before .before .before .before .before .before .before .before .before .before .before .before .before .before .before .before .before .before .before .before .before .before .before .before .before .before .before .before .before .if1 .left) _ (c .before .before .before .before .before .before .before .before .before .before .before .before .before .before .before .before .before .before .before .before .before .before .before .before .before .before .before .before .before .before .before .field-head .ensures) _ _ _ (c .before .before .before .before .before .before .before .before .before .before .before .before .before .before .before .before .before .before .before .before .before .before .before .before .convert-node-type .result) (c .before .before .before .before .before .before .before .before .before .before .before .before .before .before .before .before .before .before .before .before .before .before .before .before .convert-node-type .ensures) _ _ _ (c .before .before .before .before .before .before .before .before .before .before .before .before .convert-fields .result) (c .before .before .before .before .before .before .before .before .before .before .before .before .convert-fields .ensures) _ _ (c .before .before .make .ensures)
+convert-fields-returns-2 t c = c .before .before .before .before .before .before .before .before .before .before .before .before .before .before .before .before .before .before .before .before .before .before .before .before .convert-chunk .ensures .to .whole _ _ _ _ (c .before .before .before .before .before .before .before .before .before .before .before .before .convert-others .result) (c .before .before .before .before .before .before .before .before .before .before .before .before .convert-others .ensures) _ _ _ (c .before .before .make-fields .ensures)
 
 convert-node-type-type-kind-requires : (t : ℕ) → convert-node-type-lts.Need-type-kind-requires (convert-node-type-claims t) (convert-node-type-at t) convert-node-type.Post
 convert-node-type-type-kind-requires t c κs = c .before .before .before .before .before .pre .1 .0
@@ -376,6 +500,24 @@ convert-node-type-same-length-12 t c = search needs
 convert-node-type-returns-5 : (t : ℕ) → convert-node-type-lts.Need-returns-5 (convert-node-type-claims t) (convert-node-type-at t) convert-node-type.Post
 convert-node-type-returns-5 t c = c .before .before .before .before .before .before .convert-struct .ensures
 
+convert-others-returns : (t : ℕ) → convert-others-lts.Need-returns (convert-others-claims t) (convert-others-at t) convert-others.Post
+convert-others-returns t c = laws.fields-end _ _ _ _ _ _ (c .before .before .before .before .before .before .before .pre .1 .0) _ _ _ _ _ (c .before .before .before .before .before .before .before .pre .1 .1) (c .if1 .taken)
+
+convert-others-convert-fields-requires : (t : ℕ) → convert-others-lts.Need-convert-fields-requires (convert-others-claims t) (convert-others-at t) convert-others.Post
+convert-others-convert-fields-requires t c κs = (omega (arith, c .before .before .before .before .before .before .before .before .before .before .before .pre .0), (c .before .before .before .before .before .before .before .before .before .before .before .pre .1 .0, c .before .before .before .before .before .before .before .before .before .before .before .pre .1 .1))
+
+convert-others-same-length : (t : ℕ) → convert-others-lts.Need-same-length (convert-others-claims t) (convert-others-at t) convert-others.Post
+convert-others-same-length t c = search needs
+
+convert-others-same-length-2 : (t : ℕ) → convert-others-lts.Need-same-length-2 (convert-others-claims t) (convert-others-at t) convert-others.Post
+convert-others-same-length-2 t c = search needs
+
+convert-others-same-length-3 : (t : ℕ) → convert-others-lts.Need-same-length-3 (convert-others-claims t) (convert-others-at t) convert-others.Post
+convert-others-same-length-3 t c = search needs
+
+convert-others-returns-2 : (t : ℕ) → convert-others-lts.Need-returns-2 (convert-others-claims t) (convert-others-at t) convert-others.Post
+convert-others-returns-2 t c = c .before .before .before .before .before .before .convert-fields .ensures
+
 convert-pointer-add-at : (t : ℕ) → convert-pointer-lts.Need-add-at (convert-pointer-claims t) (convert-pointer-at t) convert-pointer.Post
 convert-pointer-add-at t c = omega (arith, heads.bounds _ _ _ (c .before .before .before .before .before .before .pre .1 .0))
 
@@ -436,13 +578,15 @@ convert-struct-same-length-3 t c = search needs
 convert-struct-returns : (t : ℕ) → convert-struct-lts.Need-returns (convert-struct-claims t) (convert-struct-at t) convert-struct.Post
 convert-struct-returns t c = laws.converted-struct _ _ _ _ _ (c .before .before .before .before .before .before .before .before .before .before .before .before .before .before .before .before .before .before .before .before .before .before .before .before .before .before .before .before .before .pre .1 .0) _ _ _ _ _ (c .before .before .before .before .before .before .before .before .before .before .before .before .before .before .before .before .before .before .before .before .before .before .before .before .before .before .before .before .before .pre .1 .1 .1) _ _ _ (c .before .before .before .before .before .before .before .before .before .before .before .before .before .before .before .convert-fields .result) (c .before .before .before .before .before .before .before .before .before .before .before .before .before .before .before .before .before .before .before .before .before .before .before .before .before .before .before .before .before .pre .1 .1 .0) _ (c .before .before .before .before .before .before .before .before .before .before .before .before .before .before .before .before .before .before .before .before .before .before .before .length-at .ensures) (c .before .before .before .before .before .before .before .before .before .before .before .before .before .before .before .convert-fields .ensures) _ _ _ (c .before .before .before .before .settle-row .ensures)
 
-pub +convert-array+convert-fields+convert-node-type+convert-pointer+convert-struct-spec :
+pub +convert-array+convert-chunk+convert-fields+convert-node-type+convert-others+convert-pointer+convert-struct-spec :
     {M : Type 1} → statement M
-+convert-array+convert-fields+convert-node-type+convert-pointer+convert-struct-spec =
++convert-array+convert-chunk+convert-fields+convert-node-type+convert-others+convert-pointer+convert-struct-spec =
     close
     μ-convert-array
+    μ-convert-chunk
     μ-convert-fields
     μ-convert-node-type
+    μ-convert-others
     μ-convert-pointer
     μ-convert-struct
     (λ t. convert-array-lts.spec (
@@ -465,25 +609,53 @@ pub +convert-array+convert-fields+convert-node-type+convert-pointer+convert-stru
     (convert-array-same-length-2 t)
     (convert-array-same-length-3 t)
     (convert-array-returns t))
-    (λ t. convert-fields-lts.spec (
+    (λ t. convert-chunk-lts.spec (
       field-head-reads.Asked,
       field-head-reads.Learnt,
       convert-node-type-below t,
       convert-node-type.Post,
-      convert-fields-below t,
-      convert-fields.Post,
-      make-reads.Asked,
-      make-reads.Learnt,
+    )
+    (convert-chunk-at t)
+    convert-chunk.Post
+    convert-chunk-Inv-loop
+    convert-chunk-μ-loop
+    (convert-chunk-loop-holds t)
+    (convert-chunk-same-length t)
+    (convert-chunk-same-length-2 t)
+    (convert-chunk-same-length-3 t)
+    (convert-chunk-returns t)
+    (convert-chunk-field-head-requires t)
+    (convert-chunk-add-at t)
+    (convert-chunk-sub-level t)
+    (convert-chunk-convert-node-type-requires t)
+    (convert-chunk-mul-kept t)
+    (convert-chunk-mul-kept-2 t)
+    (convert-chunk-element-write-kept t)
+    (convert-chunk-mul-kept-3 t)
+    (convert-chunk-add-kept t)
+    (convert-chunk-mul-kept-4 t)
+    (convert-chunk-element-write-kept-2 t)
+    (convert-chunk-add-count t)
+    (convert-chunk-loop-less t)
+    (convert-chunk-loop-again t)
+    (convert-chunk-same-length-4 t)
+    (convert-chunk-same-length-5 t)
+    (convert-chunk-same-length-6 t)
+    (convert-chunk-returns-2 t))
+    (λ t. convert-fields-lts.spec (
+      convert-chunk-below t,
+      convert-chunk.Post,
+      convert-others-below t,
+      convert-others.Post,
+      make-fields-reads.Asked,
+      make-fields-reads.Learnt,
     )
     (convert-fields-at t)
     convert-fields.Post
     (convert-fields-returns t)
-    (convert-fields-field-head-requires t)
-    (convert-fields-add-at t)
-    (convert-fields-sub-level t)
-    (convert-fields-convert-node-type-requires t)
-    (convert-fields-convert-fields-requires t)
-    (convert-fields-make-requires t)
+    (convert-fields-convert-chunk-requires t)
+    (convert-fields-convert-others-requires t)
+    (convert-fields-make-fields-requires t)
     (convert-fields-same-length t)
     (convert-fields-same-length-2 t)
     (convert-fields-same-length-3 t)
@@ -528,6 +700,16 @@ pub +convert-array+convert-fields+convert-node-type+convert-pointer+convert-stru
     (convert-node-type-same-length-11 t)
     (convert-node-type-same-length-12 t)
     (convert-node-type-returns-5 t))
+    (λ t. convert-others-lts.spec
+    (convert-fields-below t, convert-fields.Post)
+    (convert-others-at t)
+    convert-others.Post
+    (convert-others-returns t)
+    (convert-others-convert-fields-requires t)
+    (convert-others-same-length t)
+    (convert-others-same-length-2 t)
+    (convert-others-same-length-3 t)
+    (convert-others-returns-2 t))
     (λ t. convert-pointer-lts.spec (
       convert-node-type-below t,
       convert-node-type.Post,
