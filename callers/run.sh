@@ -1,6 +1,7 @@
 #!/bin/sh
 # Builds the static library and the examples in C and Rust over it, and holds what they print of a module file, and of the file cut short,
-# to what is expected. Then the Rust crate's tests. Exits nonzero on a difference. Needs rt, cc and cargo on x86-64 Linux.
+# to what is expected. Then the Rust crate's tests, and the deepest and the longest modules on a thread with a stack of 128 KB. Exits
+# nonzero on a difference. Needs rt, cc and cargo on x86-64 Linux.
 set -eu
 for needed in rt cc cargo; do
     command -v "$needed" >/dev/null || { echo "callers: $needed is needed and is not on the PATH" >&2; exit 2; }
@@ -12,7 +13,9 @@ unset DELTA_NULL_LIB # the library made here is the one that is linked
 
 echo "callers: exports is proved first, which takes some minutes from nothing ($out/staticlib.log)" >&2
 rt staticlib exports >"$out/staticlib.log" 2>&1 || { tail -5 "$out/staticlib.log"; exit 1; }
-cc -std=c11 -Wall -Wextra -Wpedantic -Werror -O2 -Iinclude callers/c/check_file.c target/staticlib/libexports.a -o "$out/check_file_c"
+for program in check_file stack; do
+    cc -std=c11 -Wall -Wextra -Wpedantic -Werror -O2 -pthread -Iinclude "callers/c/$program.c" target/staticlib/libexports.a -o "$out/${program}_c"
+done
 cargo() { command cargo "$@" --quiet --offline --manifest-path callers/rust/Cargo.toml --target-dir "$out/rust"; }
 cargo build --release --example check_file
 
@@ -29,4 +32,6 @@ echo 'refused 2 at 0' >"$out/short.expected"
 expect callers/example.module callers/example.expected
 expect "$out/short.module" "$out/short.expected"
 cargo test --release
+"$out/stack_c" >"$out/stack.log"
+tail -1 "$out/stack.log"
 echo 'callers: ok'
