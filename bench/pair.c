@@ -9,7 +9,10 @@
 
 #include "../include/delta_null_type_check.h"
 
-enum { MOST_BYTES = 65536, ROW_WORDS = 12000, ERROR_WORDS = 14000, WORK_WORDS = 16376, ROUNDS = 40, MOST_TURNS = 4096 };
+enum { MOST_BYTES = 65536, ROW_WORDS = 28000, ERROR_WORDS = 28000, WORK_WORDS = 16376, MOST_TURNS = 4096 };
+
+/* How many rounds there are, and how many at least, if they take longer than these nanoseconds. */
+enum { ROUNDS = 40, LEAST_ROUNDS = 5, LONG = 100000000 };
 
 typedef uint32_t check_module(
     const uint8_t *, size_t, uint8_t *, size_t, uint32_t *, size_t, uint32_t *, size_t, uint32_t *, size_t,
@@ -42,7 +45,8 @@ static double timed(check_module *check, size_t length, int turns) {
     size_t error_count, place;
     double start = now();
     for (int turn = 0; turn < turns; turn++)
-        check(input, length, output, MOST_BYTES, rows, ROW_WORDS, errors, ERROR_WORDS, work, WORK_WORDS, &row_count, &error_count, &place);
+        if (check(input, length, output, MOST_BYTES, rows, ROW_WORDS, errors, ERROR_WORDS, work, WORK_WORDS, &row_count, &error_count, &place))
+            stop("a module is refused");
     return (now() - start) / turns;
 }
 
@@ -55,7 +59,8 @@ static void measure(const char *path, check_module *old, check_module *new, doub
     double once = timed(old, length, 1), old_best = 1e18, new_best = 1e18;
     int turns = 1;
     while (once * turns < 2e5 && turns < MOST_TURNS) turns *= 2;
-    for (int round = 0; round < ROUNDS; round++) {
+    double start = now();
+    for (int round = 0; round < ROUNDS && (round < LEAST_ROUNDS || now() - start < LONG); round++) {
         double time = timed(old, length, turns);
         if (time < old_best) old_best = time;
         time = timed(new, length, turns);

@@ -1,6 +1,7 @@
 //! How long the product, the reference and a bare walk take for the same modules. README.md says how to run it.
 
 mod modules;
+mod slow;
 mod walk;
 
 use std::{
@@ -12,10 +13,11 @@ use std::{
     time::{Duration, Instant},
 };
 
+use modules::Class;
 use oracle::{
     decode::Decoder,
     layout::{self, MOST_BYTES, Module},
-    product::Product,
+    product::{Product, ROOMY},
     type_check::type_check_module,
 };
 
@@ -25,21 +27,29 @@ const SPAN: Duration = Duration::from_millis(1);
 const ROUNDS: usize = 60;
 const ALL: Duration = Duration::from_millis(300);
 
+/// From here on what asking the product costs is nothing beside two turns.
+const SLOW: Duration = Duration::from_millis(20);
+
+/// The time of the fastest round.
+fn least(mut round: impl FnMut() -> Duration) -> Duration {
+    let start = Instant::now();
+    let mut best = round();
+    for _ in 1..ROUNDS {
+        if start.elapsed() > ALL {
+            break;
+        }
+        best = best.min(round());
+    }
+    best
+}
+
 /// Nanoseconds for one turn in the fastest round, each of as many turns as fill the span.
 fn fastest(mut run: impl FnMut(u32) -> Duration) -> f64 {
     let mut turns = 1;
     while run(turns) < SPAN && turns < 1 << 20 {
         turns *= 2;
     }
-    let start = Instant::now();
-    let mut best = run(turns);
-    for _ in 1..ROUNDS {
-        if start.elapsed() > ALL {
-            break;
-        }
-        best = best.min(run(turns));
-    }
-    best.as_nanos() as f64 / f64::from(turns)
+    least(|| run(turns)).as_nanos() as f64 / f64::from(turns)
 }
 
 /// What a module costs, in nanoseconds.
@@ -49,7 +59,7 @@ struct Cost {
     product: f64,
     /// Tests 1 to 3 of the product alone.
     layout: f64,
-    /// The reference with and without a file in each place, and from the records of the file on.
+    /// The reference with and without a file in each place, and from the records of the file on; 0 if it is not asked.
     reference: f64,
     without_files: f64,
     decoded: f64,
@@ -63,7 +73,10 @@ fn timed(product: &mut Product, bytes: &[u8]) -> f64 {
         product.repeat(bytes, turns).expect("a product that answers");
         before.elapsed()
     };
-    let asking = (0..ROUNDS).map(|_| asked(2)).min().unwrap();
+    let asking = least(|| asked(2));
+    if asking > SLOW {
+        return asking.as_nanos() as f64 / 2.0;
+    }
     fastest(|turns| asked(turns + 2).saturating_sub(asking))
 }
 
@@ -105,15 +118,21 @@ fn timed_decoded(module: &Module) -> f64 {
     })
 }
 
-fn cost(product: &mut Product, bytes: &[u8]) -> Cost {
+/// What the product and the bare walk cost, and the reference if it is asked.
+fn cost(product: &mut Product, bytes: &[u8], is_asked: bool) -> Cost {
     let module = layout::read(bytes).expect("a good module");
+    let spoiled = spoiled(bytes, &module);
+    for (bytes, number) in [(bytes, 0), (&spoiled, 2)] {
+        assert_eq!(product.check(bytes, ROOMY).expect("a product that answers").number, number);
+    }
+    let asked = |time: &dyn Fn() -> f64| if is_asked { time() } else { 0.0 };
     Cost {
         bytes: bytes.len() as f64,
         product: timed(product, bytes),
-        layout: timed(product, &spoiled(bytes, &module)),
-        reference: timed_reference(&module, true),
-        without_files: timed_reference(&module, false),
-        decoded: timed_decoded(&module),
+        layout: timed(product, &spoiled),
+        reference: asked(&|| timed_reference(&module, true)),
+        without_files: asked(&|| timed_reference(&module, false)),
+        decoded: asked(&|| timed_decoded(&module)),
         walk: fastest(|turns| {
             let before = Instant::now();
             for _ in 0..turns {
@@ -124,6 +143,22 @@ fn cost(product: &mut Product, bytes: &[u8]) -> Cost {
     }
 }
 
+/// What the modules of a class cost together.
+fn class_cost(product: &mut Product, class: &Class, is_asked: bool) -> Cost {
+    let mut sum = Cost::default();
+    for bytes in &class.modules {
+        let one = cost(product, bytes, is_asked);
+        sum.bytes += one.bytes;
+        sum.product += one.product;
+        sum.layout += one.layout;
+        sum.reference += one.reference;
+        sum.without_files += one.without_files;
+        sum.decoded += one.decoded;
+        sum.walk += one.walk;
+    }
+    sum
+}
+
 fn run(product: &Path, only: &str) -> Result<(), String> {
     let mut product = Product::start(product)?;
     println!(
@@ -131,30 +166,22 @@ fn run(product: &Path, only: &str) -> Result<(), String> {
     );
     println!("|---|---|---|---|---|---|---|---|---|---|");
     for class in modules::classes().into_iter().filter(|class| class.name.starts_with(only)) {
+        let is_asked = class.modules.iter().all(|bytes| modules::is_fit(bytes));
+        let sum = class_cost(&mut product, &class, is_asked);
         let count = class.modules.len() as f64;
-        let mut sum = Cost::default();
-        for bytes in &class.modules {
-            let one = cost(&mut product, bytes);
-            sum.bytes += one.bytes;
-            sum.product += one.product;
-            sum.layout += one.layout;
-            sum.reference += one.reference;
-            sum.without_files += one.without_files;
-            sum.decoded += one.decoded;
-            sum.walk += one.walk;
-        }
+        let shown = |value: f64, digits| if is_asked { format!("{value:.digits$}") } else { "-".to_owned() };
         println!(
-            "| {} | {:.0} | {:.0} | {:.2} | {:.0} | {:.0} | {:.0} | {:.1} | {:.1} | {:.1} |",
+            "| {} | {:.0} | {:.0} | {:.2} | {:.0} | {:.0} | {} | {} | {} | {} |",
             class.name,
             sum.bytes / count,
             sum.product / count,
             sum.product / sum.bytes,
             sum.layout / count,
             sum.walk / count,
-            sum.reference / count,
-            sum.reference / sum.product,
-            sum.without_files / sum.product,
-            sum.decoded / sum.product,
+            shown(sum.reference / count, 0),
+            shown(sum.reference / sum.product, 1),
+            shown(sum.without_files / sum.product, 1),
+            shown(sum.decoded / sum.product, 1),
         );
     }
     Ok(())

@@ -9,14 +9,19 @@ use oracle::{
     tree::Tree,
 };
 
+use crate::slow;
+
 /// Modules of one sort and about one size.
 pub struct Class {
     pub name: String,
     pub modules: Vec<Vec<u8>>,
 }
 
+/// Classes of one sort: their name, what makes a module of a size, and the sizes.
+pub type Row = (&'static str, fn(usize) -> Vec<u8>, &'static [usize]);
+
 /// Whether the reference can be asked.
-fn is_fit(bytes: &[u8]) -> bool {
+pub fn is_fit(bytes: &[u8]) -> bool {
     layout::read(bytes).is_ok_and(|module| model::check(&module).work <= MOST_WORK)
 }
 
@@ -65,21 +70,31 @@ fn renumber(tree: &mut Tree, numbers: &[u32]) {
     tree.children.iter_mut().for_each(|child| renumber(child, numbers));
 }
 
-/// A module over the names u16, x and those of a number each.
-fn numbered(names: usize, items: Vec<Tree>) -> Vec<u8> {
-    let mut all = vec!["u16".to_owned(), "x".to_owned()];
+/// A module over some names and so many of a number each.
+pub fn over(first: &[&str], names: usize, items: Vec<Tree>) -> Vec<u8> {
+    let mut all: Vec<String> = first.iter().map(|&name| name.to_owned()).collect();
     all.extend((0..names).map(|i| format!("n{i}")));
     Tree::module(&all, items).to_bytes()
 }
 
+/// A module over the names u16, x and those of a number each.
+pub fn numbered(names: usize, items: Vec<Tree>) -> Vec<u8> {
+    over(&["u16", "x"], names, items)
+}
+
 /// A type by the number of its name in `numbered`.
-fn named(name: u32) -> Tree {
+pub fn named(name: u32) -> Tree {
     record(16, &[0, name], vec![])
 }
 
+/// So many aliases, each of the one before and the first of the type `of`. Their names are numbered from `first` on.
+pub fn aliases(first: u32, count: usize, flags: u32, of: u32) -> Vec<Tree> {
+    let inner = |i| named(if i == 0 { of } else { first + i - 1 });
+    (0..count as u32).map(|i| record(81, &[first + i, flags], vec![inner(i)])).collect()
+}
+
 fn chain(count: usize) -> Vec<u8> {
-    let mut items: Vec<Tree> =
-        (0..count as u32).map(|i| record(81, &[i + 2, 0], vec![named(if i == 0 { 0 } else { i + 1 })])).collect();
+    let mut items = aliases(2, count, 0, 0);
     items.push(record(83, &[1], vec![named(count as u32 + 1), record(32, &[0, 1], vec![])]));
     numbered(count, items)
 }
@@ -124,7 +139,7 @@ pub fn classes() -> Vec<Class> {
     for size in [1_000, 2_000, 4_000, 8_000, 16_000, 32_000, MOST_BYTES] {
         put(&format!("joined {size}"), (0..4).map(|i| joined(size, 1_000 * i)).collect());
     }
-    let rows: [(&str, fn(usize) -> Vec<u8>, &[usize]); 16] = [
+    let rows: [Row; 16] = [
         ("many types", limits::with_rows, &[375, 750, 1_500, 3_000]),
         ("chain of aliases", chain, &[50, 100, 200, 400, 800]),
         ("casts", casts, &[100, 200, 400]),
@@ -142,7 +157,7 @@ pub fn classes() -> Vec<Class> {
         ("compound fields", compound, &[100, 200, 400, 800]),
         ("call arguments", arguments, &[100, 200, 400, 700]),
     ];
-    for (name, make, sizes) in rows {
+    for (name, make, sizes) in rows.into_iter().chain(slow::ROWS) {
         for &size in sizes {
             put(&format!("{name} {size}"), vec![make(size)]);
         }
@@ -170,11 +185,15 @@ fn sizes(count: usize) -> Vec<u8> {
     numbered(0, vec![record(80, &[1], children)])
 }
 
-/// Names that the product's hash of names does not tell apart (crates/node/src/names.rt).
+/// The product's hash of names (crates/node/src/names.rt).
+pub fn hash(name: &[u8]) -> u64 {
+    name.iter().fold(0, |h, &byte| (h + u64::from(byte)) * 668_265_263 % (1 << 32)) >> 22
+}
+
+/// Names that the product's hash of names does not tell apart.
 fn one_hash(count: usize) -> Vec<u8> {
-    let hash = |name: &str| name.bytes().fold(0, |h: u64, byte| (h + u64::from(byte)) * 668_265_263 % (1 << 32)) >> 22;
-    let names: Vec<String> =
-        (0..).map(|i: u32| format!("n{i:07}")).filter(|name| hash(name) == 0).take(count).collect();
+    let all = (0..).map(|i: u32| format!("n{i:07}"));
+    let names: Vec<String> = all.filter(|name| hash(name.as_bytes()) == 0).take(count).collect();
     Tree::module(&names, vec![]).to_bytes()
 }
 

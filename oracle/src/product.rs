@@ -28,6 +28,9 @@ pub struct Loans {
 /// What the report program lends.
 pub const REPORT: Loans = Loans { output: 65_536, rows: 12_000, errors: 14_000, work: 16_376 };
 
+/// Room for 7,000 rows and 4,000 errors.
+pub const ROOMY: Loans = Loans { output: 65_536, rows: 28_000, errors: 28_000, work: 16_376 };
+
 /// What stands in every lent word before a run.
 pub const FILL: u32 = 0xa5a5_a5a5;
 
@@ -116,7 +119,7 @@ impl Product {
         }
     }
 
-    /// Has the product check a module several times, at least two, with the report program's loans.
+    /// Has the product check a module several times, at least two, with roomy loans.
     pub fn repeat(&mut self, module: &[u8], turns: u32) -> Result<(), String> {
         match self {
             Product::Program(program) => program.repeat(module, turns),
@@ -132,7 +135,7 @@ impl Product {
 /// The product as a static library, as `rt staticlib` makes it: a slice is a pointer and a length.
 #[cfg(linked)]
 mod linked {
-    use super::{FILL, LIMIT, Loans, Question, REPORT, Reply, Said, work_before};
+    use super::{FILL, LIMIT, Loans, Question, ROOMY, Reply, Said, work_before};
     use std::{sync::mpsc, thread};
 
     unsafe extern "C" {
@@ -270,7 +273,7 @@ mod linked {
     }
 
     pub fn repeat(module: &[u8], turns: u32) {
-        let mut said = buffers(REPORT);
+        let mut said = buffers(ROOMY);
         for _ in 0..turns {
             run(std::hint::black_box(module), &mut said);
         }
@@ -314,7 +317,7 @@ impl Program {
     }
 
     fn repeat(&mut self, module: &[u8], turns: u32) -> Result<(), String> {
-        self.asked(module, REPORT, turns)?;
+        self.asked(module, ROOMY, turns)?;
         self.ask.send(Loans { output: 0, rows: 0, errors: 0, work: 0 }).map_err(|e| e.to_string())?;
         self.hear.recv().map_err(|e| e.to_string())?.map(|_| ())
     }

@@ -1,8 +1,8 @@
 //! The limits: bytes, depth, rows, errors and what is lent, each met and passed by one.
 
 use super::{
-    A, Case, M, REPORT, U16, X, Y, alias, array, complete, global, global_with, id, items::example_module, module,
-    name, number, pointer, put, record, structure, ty,
+    A, BOOL, Case, F, M, REPORT, U16, X, Y, alias, array, at, block, complete, global, global_with, id,
+    items::example_module, module, name, number, pointer, put, record, structure, ty, void,
 };
 use crate::{
     layout::{self, Place},
@@ -23,8 +23,33 @@ pub fn add(all: &mut Vec<Case>) {
     for errors in [2_000, 2_001] {
         put(all, format!("{errors} errors"), with_errors(errors));
     }
+    lists(all);
     loans(all);
     repeated_names(all);
+}
+
+/// Lists of fields and of parameters around the multiples of 32 and 64, in which the product converts their members. One type in three is
+/// unknown, each on a line of its own, so that the order of conversions shows.
+fn lists(all: &mut Vec<Case>) {
+    let inner = |i: u32| match i % 3 {
+        0 => at(i, ty(name("nobody"))),
+        1 => array(i, ty(U16)),
+        _ => pointer(ty(BOOL)),
+    };
+    let fields = |count: u32| -> Vec<(u32, Tree)> { (0..count).map(|i| (X + i % 4, inner(i))).collect() };
+    for count in [0, 1, 2, 31, 32, 33, 63, 64, 65, 96, 97, 128, 129] {
+        let mut children = vec![void()];
+        children.extend((0..count).map(|i| record(85, &[X + i % 4], vec![inner(count + i)])));
+        children.push(block(vec![record(66, &[Y], vec![structure(fields(count))])]));
+        let items = vec![global(X, structure(fields(count))), record(80, &[F], children)];
+        put(all, format!("lists of {count}"), complete(items));
+    }
+    // Such a list in the last place of a chunk, and behind it.
+    for count in [31, 32, 33] {
+        let around = |ty, _| structure([fields(count), vec![(M, ty), (M, inner(0))]].concat());
+        let nested = (0..3).fold(structure(fields(count)), around);
+        put(all, format!("lists in each other, {count} before"), complete(vec![global(X, nested)]));
+    }
 }
 
 fn depths(all: &mut Vec<Case>) {
