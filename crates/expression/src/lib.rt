@@ -7,6 +7,8 @@ use expression_rules::identifier;
 use expression_rules::integer;
 use expression_rules::unary;
 use node::bytes::FIELD_END;
+use node::bytes::KIND;
+use node::bytes::half;
 use node::bytes::length_at;
 use node::fine::Entered;
 use node::fine::Node;
@@ -27,20 +29,16 @@ use walk::State;
 use walk::Typed;
 use walk::put_slot;
 ghost use mathlib.Core.Path.{_≡_};
-ghost use Prim.Native.Nat.{_*_, _≤_};
-ghost use lib.ListN.{length};
 ghost use Rattle.contract.specs.Moments.{old, final};
 ghost use Rattle.shape.specs.Kinds as kinds;
 ghost use Rattle.shape.specs.Shape.{isBetween, anExpression};
 ghost use Rattle.shape.specs.declared.Holds.the-variants.{Expressions};
-ghost use Rattle.node.specs.Names.{nameCount};
 ghost use Rattle.node.specs.Layout.{kindAt};
 ghost use Rattle.node.specs.Fine.{FineNode, FineNodes, nodeOf};
-ghost use Rattle.meaning.specs.Promise.{workWidth};
 ghost use Rattle.walk.specs.Moments.{given, before, after};
 ghost use Rattle.convert.specs.Post.{Ready};
-ghost use Rattle.expression.specs.Post.{LeafIn, OneOperandIn, TwoOperandsIn, LeafCarried, CarriedNode};
-ghost use Rattle.expression.specs.Post.{CarriedNodes};
+ghost use Rattle.expression.specs.Post.{LeafIn, LeafReady, LeafCarried, OneOperandIn, TwoOperandsIn};
+ghost use Rattle.expression.specs.Post.{CarriedNode, CarriedNodes};
 
 // An expression without parts.
 fn leaf(
@@ -50,10 +48,11 @@ fn leaf(
     kind: u32,
     output: &mut [u8],
     errors: &mut [u32],
+    index: &[u16; row_index::LENGTH],
     state: State,
 ) -> Typed
     requires { ⌜ LeafIn (now s) node kind ⌝ }
-    requires { ⌜ (length (now s) ≤ length (now output)) × (workWidth * nameCount (now s) ≤ length (now work)) ⌝ }
+    requires { ⌜ LeafReady (now s) (now work) (now output) (now index) ⌝ }
     ensures { λ r. ⌜ LeafCarried (old s) node (old work)
         (old output) (old errors) state
         (final output) (final errors) r ⌝ }
@@ -66,7 +65,7 @@ fn leaf(
             typed
         }
         INTEGER => {
-            let typed = integer(s, at, errors, state);
+            let typed = integer(s, at, errors, index, state);
             put_slot(output, at, typed.ty);
             typed
         }
@@ -140,11 +139,12 @@ pub fn type_check_expression(
         (before work output errors rows index state)
         (after work output errors rows index (r .state)) (r .ty) ⌝ }
 {
+    let kind = half(s, node.at + KIND);
+    if kind <= STRING {
+        return leaf(s, work, node, kind, output, errors, index, state);
+    }
     let head = enter(s, node, EXPRESSION);
     let kind = head.kind;
-    if kind <= STRING {
-        return leaf(s, work, node, kind, output, errors, state);
-    }
     match kind {
         CALL => call(s, names, work, node, output, errors, rows, index, state),
         CAST => cast(s, names, work, node, output, errors, rows, index, state),

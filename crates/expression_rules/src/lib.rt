@@ -35,7 +35,8 @@ ghost use Prim.Native.Nat.{_+_, _*_, _≤_};
 ghost use lib.ListN.{length};
 ghost use Rattle.contract.specs.Moments.{old, final};
 ghost use Rattle.shape.specs.Kinds as kinds;
-ghost use Rattle.row_index.specs.Index.{Indexed};
+ghost use Rattle.literal.specs.Digits.{DigitTable};
+ghost use Rattle.row_index.specs.Index.{digitsIn, Indexed};
 ghost use Rattle.types.specs.Ty.{pointerKind, structKind};
 ghost use Rattle.types.specs.Table.{unfolded};
 ghost use Rattle.relations.specs.Entry.{OneType, TwoTypes};
@@ -132,14 +133,23 @@ pub fn identifier(s: &[u8], work: &[u32], at: usize, errors: &mut [u32], state: 
 }
 
 // An integer literal: u16, even where it is out of range.
-pub fn integer(s: &[u8], at: usize, errors: &mut [u32], state: State) -> Typed
+pub fn integer(
+    s: &[u8],
+    at: usize,
+    errors: &mut [u32],
+    index: &[u16; row_index::LENGTH],
+    state: State,
+) -> Typed
     requires { ⌜ (fieldsEnd at ≤ stopAt (now s) at) × (stopAt (now s) at ≤ length (now s)) ⌝ }
+    requires { ⌜ DigitTable (digitsIn (now index)) ⌝ }
     ensures { λ r. ⌜ Integer (old s) at (old errors) state (final errors) r ⌝ }
 {
     let base = word(s, at + FIELD_END);
     let start = at + FIELDS_END;
     let stop = at + length_at(s, at);
-    let parsed = literal::from_str_radix(&s[start..stop], base);
+    let words = &index[..];
+    let table = &words[row_index::DIGITS..row_index::LENGTH];
+    let parsed = literal::from_str_radix_with(&s[start..stop], base, table);
     match parsed {
         Parsed::Value(_) => Typed {
             ty: types::U16,

@@ -1,8 +1,13 @@
 // Integer literals: `u16::from_str_radix` on bytes.
+pub mod digits;
+
+use digits::BYTES;
+use digits::put_digits;
 ghost use mathlib.Core.Path.{_≡_};
 ghost use Prim.Native.Nat.{_≤_};
 ghost use Rattle.contract.specs.Moments.{old};
-ghost use Rattle.literal.specs.Literal.{digitValue, parseDigits, fromStrRadix, parsedValue};
+ghost use Rattle.literal.specs.Literal.{parseDigits, fromStrRadix, parsedValue};
+ghost use Rattle.literal.specs.Digits.{DigitTable};
 
 // What reading a literal finds.
 pub enum Parsed {
@@ -16,21 +21,10 @@ const MAX_BASE: u32 = 36;
 
 const U16_MAX: u32 = 65535;
 
-// A byte's worth as a digit; 255 if it is none.
-fn digit_value(byte: u8) -> u32
-    ensures { λ r. ⌜ r ≡ digitValue byte ⌝ }
-{
-    match byte {
-        b'0'..=b'9' => (byte - b'0') as u32,
-        b'A'..=b'Z' => (byte - b'A' + 10) as u32,
-        b'a'..=b'z' => (byte - b'a' + 10) as u32,
-        _ => 255,
-    }
-}
-
 // Reads digits without a sign, and stops where a byte is no digit of the base or the value passes `u16::MAX`.
-fn parse_digits(digits: &[u8], base: u32) -> Parsed
+fn parse_digits(digits: &[u8], base: u32, table: &[u16]) -> Parsed
     requires { ⌜ (2 ≤ base) × (base ≤ 36) ⌝ }
+    requires { ⌜ DigitTable (now table) ⌝ }
     ensures { λ r. ⌜ parsedValue r ≡ parseDigits base (old digits) ⌝ }
 {
     if digits.len() < 1 {
@@ -39,7 +33,8 @@ fn parse_digits(digits: &[u8], base: u32) -> Parsed
     let mut value: u32 = 0;
     let mut i = 0;
     while i < digits.len() {
-        let digit = digit_value(digits[i]);
+        let byte = digits[i];
+        let digit = table[byte as usize] as u32;
         if base <= digit {
             return Parsed::Invalid;
         }
@@ -52,8 +47,9 @@ fn parse_digits(digits: &[u8], base: u32) -> Parsed
     Parsed::Value(value as u16)
 }
 
-// Reads a literal: perhaps a `+`, then digits of a base of 2 to 36, letters of either case.
-pub fn from_str_radix(text: &[u8], base: u32) -> Parsed
+// Reads a literal: perhaps a `+`, then digits of a base of 2 to 36, letters of either case. The table is lent.
+pub fn from_str_radix_with(text: &[u8], base: u32, table: &[u16]) -> Parsed
+    requires { ⌜ DigitTable (now table) ⌝ }
     ensures { λ r. ⌜ parsedValue r ≡ fromStrRadix base (old text) ⌝ }
 {
     if base < MIN_BASE {
@@ -66,7 +62,16 @@ pub fn from_str_radix(text: &[u8], base: u32) -> Parsed
         return Parsed::Invalid;
     }
     if text[0] == b'+' {
-        return parse_digits(&text[1..], base);
+        return parse_digits(&text[1..], base, table);
     }
-    parse_digits(text, base)
+    parse_digits(text, base, table)
+}
+
+// Reads a literal with a table of its own.
+pub fn from_str_radix(text: &[u8], base: u32) -> Parsed
+    ensures { λ r. ⌜ parsedValue r ≡ fromStrRadix base (old text) ⌝ }
+{
+    let mut table = [0u16; BYTES];
+    put_digits(&mut table);
+    from_str_radix_with(text, base, &table)
 }

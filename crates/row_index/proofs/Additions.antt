@@ -1,12 +1,14 @@
 -- Rows that come into an index one after the other.
 use Prim.Native.Nat.{ℕ, zero, suc, _+_, _-_, _≤_, _<_}
 use mathlib.Core.Path.{_≡_, refl, sym, ap, _∙_, subst}
-use mathlib.Core.List.{List}
+use mathlib.Core.List.{List, _++_, append-nil}
 use native.Mathlib.Omega.{arith}
-use lib.ListN.{replicate}
+use lib.ListN.{length, getD, take, drop, replicate, length-append, length-replicate, length-drop, drop-of-length-le, getD-replicate, List·getD-append}
+use lib.Seq.{length-take-le, getD-take, take-at, drop-at}
+use Rattle.literal.specs.Digits.{bytes, DigitTable}
 use Rattle.rows.specs.Row.{rowAt}
 use Rattle.rows.specs.declared.Words.{Words}
-use Rattle.row_index.specs.Index.{indexLength, withRow, withNext, withRows, Indexed}
+use Rattle.row_index.specs.Index.{digitsStart, indexLength, withRow, withNext, withRows, Indexed}
 use Rattle.row_index.proofs.Index.{indexed-none, indexed-more}
 
 module _ (b w : List ℕ) (m : ℕ) where
@@ -83,8 +85,43 @@ module _ (b w : List ℕ) (count : ℕ) where
     pub linking-end : count ≤ n → b′ ≡ withRows b w 0 count
     linking-end h = let p = s .high in let e : n ≡ count = omega arith in s .are ∙ ap (withRows b w 0) e
 
--- A new array with the first rows in their buckets is an index of them
-pub indexed-all : (w b : List ℕ) (count : ℕ) → b ≡ withRows (replicate {A = ℕ} indexLength 0) w 0 count → Indexed w count b
-indexed-all w b count e =
-    let none : List ℕ = replicate {A = ℕ} indexLength 0 in
-    subst (Indexed w count) (sym e) (indexed-rows none w 0 count (omega arith) (indexed-none w none refl))
+-- A list of which the last m words were written
+module _ (l part : List ℕ) (n m : ℕ) (long : length l ≡ n + m) (fits : length part ≡ m) where
+  abbrev written : List ℕ
+  written = take n l ++ (part ++ drop m (drop n l))
+
+  front-long : length (take n l) ≡ n
+  front-long = length-take-le n l (omega arith)
+
+  written-long : length written ≡ length l
+  written-long =
+      let none : length (drop n l) ≤ m = simp length-drop (omega arith) in
+      rw (drop-of-length-le (drop n l) none, append-nil, length-append, front-long, fits, long)
+
+  written-front : (i : ℕ) → i < n → getD written i 0 ≡ getD l i 0
+  written-front i h = List·getD-append (take n l) (part ++ drop m (drop n l)) 0 i (omega (arith, front-long)) ∙ getD-take n l i 0 h
+
+  written-part : take m (drop n written) ≡ part
+  written-part = ap (take m) (drop-at (take n l) (part ++ drop m (drop n l)) n front-long) ∙ take-at part (drop m (drop n l)) m fits
+
+-- A new array, with the digits written and then the first rows in their buckets, is an index of them
+module _ (table : List ℕ) (digits : DigitTable table) where
+  zeros : List ℕ
+  zeros = replicate indexLength 0
+
+  zeros-long : length zeros ≡ digitsStart + bytes
+  unfolding zeros
+  zeros-long = length-replicate {A = ℕ} indexLength 0
+
+  pub indexed-all : (w b₀ b : List ℕ) (count : ℕ)
+      → b₀ ≡ take digitsStart (replicate indexLength 0) ++ (table ++ drop bytes (drop digitsStart (replicate indexLength 0))) → b ≡ withRows b₀ w 0 count → Indexed w count b
+  unfolding zeros
+  indexed-all w b₀ b count first e =
+      let long = written-long zeros table digitsStart bytes zeros-long (digits .long) in
+      let front = written-front zeros table digitsStart bytes zeros-long (digits .long) in
+      let part = written-part zeros table digitsStart bytes zeros-long (digits .long) in
+      subst (Indexed w count) (sym e)
+      (indexed-rows b₀ w 0 count (omega arith)
+      (indexed-none w b₀ (ap length first ∙ long ∙ zeros-long)
+      (λ bucket h. ap (λ (l : List ℕ). getD l bucket 0) first ∙ front bucket (omega arith) ∙ getD-replicate indexLength bucket 0 0 (omega arith))
+      (subst DigitTable (sym (ap (λ (l : List ℕ). take bytes (drop digitsStart l)) first ∙ part)) digits)))

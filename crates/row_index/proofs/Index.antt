@@ -7,13 +7,14 @@ use mathlib.Core.Logic.{inl, inr, ⊎-elim}
 use native.Mathlib.Omega.{arith}
 use borrow.Author.Tests.{leb-true, leb-false, le-leb, lt-leb, eqb-true, eqb-false}
 use lib.Dec.{leb, eqb}
-use lib.ListN.{length, getD, set, replicate, length-set, length-replicate, getD-replicate}
-use lib.Seq.{getD-set-same, getD-set-other}
+use lib.ListN.{length, getD, set, take, length-set}
+use lib.Seq.{getD-set-same, getD-set-other, drop-set-lt}
+use Rattle.literal.specs.Digits.{bytes, DigitTable}
 use Rattle.rows.specs.Row.{rowAt, Distinct}
 use Rattle.rows.specs.Search.{Decides, Found}
 use Rattle.rows.specs.declared.Words.{Words}
 use Rattle.rows.proofs.Search.{last-or}
-use Rattle.row_index.specs.Index.{heads, places, indexLength, bucketOf, withRow, Highest, Indexed, Followed}
+use Rattle.row_index.specs.Index.{heads, places, digitsStart, indexLength, digitsIn, bucketOf, withRow, Highest, Indexed, Followed}
 
 pub bucket-low : (r : Words) → bucketOf r < heads
 unfolding bucketOf
@@ -145,22 +146,20 @@ pub row-linked : (b : List ℕ) (n : ℕ) (r : Words) → n ≤ places → (buck
     → set (set b (heads + n - 1) (getD b bucket 0)) bucket n ≡ withRow b n r
 row-linked b n r h bucket e = ap (λ (x : ℕ). set (set b (heads + n - 1) (getD b x 0)) x n) e ∙ sym (with-row b n r h)
 
--- An index of no rows: every word is 0
-pub indexed-none : (w b : List ℕ) → b ≡ replicate indexLength 0 → Indexed w 0 b
-indexed-none w b e =
+-- An index of no rows: the words of the buckets are 0
+pub indexed-none : (w b : List ℕ) → length b ≡ indexLength → ((bucket : ℕ) → bucket < heads → getD b bucket 0 ≡ 0) → DigitTable (digitsIn b) → Indexed w 0 b
+indexed-none w b long zeros digits =
     record {
-      long = ap length e ∙ length-replicate {A = ℕ} indexLength 0;
+      long = long;
       last = 0;
       few = omega arith;
       fits = omega arith;
       all = inl refl;
-      head = λ bucket h. subst (Highest w bucket (0 + 1)) (sym (zeros bucket (omega arith)))
+      head = λ bucket h. subst (Highest w bucket (0 + 1)) (sym (zeros bucket h))
           (record { low = omega arith; own = λ p. absurd (omega arith); top = λ i l q x. omega arith });
       link = λ n l h. absurd (omega arith);
+      digits = digits;
     }
-  where
-    zeros : (i : ℕ) → i < indexLength → getD b i 0 ≡ 0
-    zeros i h = ap (λ (x : List ℕ). getD x i 0) e ∙ getD-replicate indexLength i 0 0 h
 
 -- An index of rows is one of the same rows in other words
 module _ (w w′ : List ℕ) (c : ℕ) (same : (i : ℕ) → 1 ≤ i → i ≤ c → rowAt w′ i ≡ rowAt w i) where
@@ -185,6 +184,7 @@ indexed-kept {w} {w′} {c} {b} l same =
       link = λ n p h.
           highest-kept w w′ c same _ n _ (omega arith)
           (subst (λ (x : ℕ). Highest w x n (getD b (heads + n - 1) 0)) (sym (ap bucketOf (same n p (omega arith)))) (l .link n p h));
+      digits = l .digits;
     }
 
 -- One more row, in its bucket if there is a place for it
@@ -202,6 +202,7 @@ module _ (w : List ℕ) (c : ℕ) (b : List ℕ) (r : Words) (e : rowAt w (c + 1
         all = inr (⊎-elim (λ (q : l .last ≡ c). omega arith) (λ (q : l .last ≡ places). q) (l .all));
         head = l .head;
         link = l .link;
+        digits = l .digits;
       }
 
   module _ (l : Indexed w c b) (room : c + 1 ≤ places) where
@@ -273,9 +274,27 @@ module _ (w : List ℕ) (c : ℕ) (b : List ℕ) (r : Words) (e : rowAt w (c + 1
             (subst (Highest w (bucketOf (rowAt w (c + 1))) (c + 1)) (sym link-own)
             (subst (λ (x : ℕ). Highest w x (c + 1) (getD b (bucketOf r) 0)) (sym (ap bucketOf e)) (old (bucketOf r) (bucket-low r))))
 
+    digits-after : digitsIn after ≡ digitsIn b
+    digits-after =
+        let h = bucket-low r in
+        let link : heads + (c + 1) - 1 < digitsStart = omega arith in
+        let head : bucketOf r < digitsStart = omega arith in
+        ap (take {A = ℕ} bytes)
+        (drop-set-lt digitsStart (set b (heads + (c + 1) - 1) (getD b (bucketOf r) 0)) (bucketOf r) (c + 1) head
+        ∙ drop-set-lt digitsStart b (heads + (c + 1) - 1) (getD b (bucketOf r) 0) link)
+
     indexed-after : Indexed w (c + 1) after
     indexed-after =
-        record { long = simp length-set (l .long); last = c + 1; few = omega arith; fits = room; all = inl refl; head = head-after; link = link-after }
+        record {
+          long = simp length-set (l .long);
+          last = c + 1;
+          few = omega arith;
+          fits = room;
+          all = inl refl;
+          head = head-after;
+          link = link-after;
+          digits = subst DigitTable (sym digits-after) (l .digits);
+        }
 
 pub indexed-more : {w : List ℕ} {c : ℕ} {b : List ℕ} → Indexed w c b → (r : Words) → rowAt w (c + 1) ≡ r → Indexed w (c + 1) (withRow b (c + 1) r)
 indexed-more {w} {c} {b} l r e = go (leb (c + 1) places) refl

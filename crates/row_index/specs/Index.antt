@@ -1,11 +1,12 @@
--- An index of rows: for each bucket its highest row, and for each row the one before it in its bucket.
+-- An index of rows: for each bucket its highest row, and for each row the one before it in its bucket. Behind them stands the table of digits.
 use Prim.Native.Nat.{ℕ, zero, suc, _+_, _-_, _*_, _/_, _%_, _≤_, _<_}
 use mathlib.Core.Path.{_≡_}
 use mathlib.Core.Bool.{cond}
 use mathlib.Core.List.{List}
 use mathlib.Core.Logic.{_⊎_}
 use lib.Dec.{leb}
-use lib.ListN.{length, getD, set}
+use lib.ListN.{length, getD, set, take, drop}
+use Rattle.literal.specs.Digits.{bytes, DigitTable}
 use Rattle.rows.specs.Row.{rowAt}
 use Rattle.rows.specs.declared.Words.{Words}
 
@@ -17,9 +18,17 @@ heads = 512
 abbrev pub places : ℕ
 places = 3584
 
+-- Where the table of digits starts
+abbrev pub digitsStart : ℕ
+digitsStart = heads + places
+
 -- How many words an index has
 abbrev pub indexLength : ℕ
-indexLength = heads + places
+indexLength = digitsStart + bytes
+
+-- The table of digits in an index
+abbrev pub digitsIn : List ℕ → List ℕ
+digitsIn b = take bytes (drop digitsStart b)
 
 -- The bucket of a row, by its words
 unfoldable pub bucketOf : Words → ℕ
@@ -32,7 +41,7 @@ pub record Highest (w : List ℕ) (bucket n v : ℕ) : Type 0 where
   pub top : (i : ℕ) → 1 ≤ i → i < n → bucketOf (rowAt w i) ≡ bucket → i ≤ v
 
 -- b is an index of the first `count` rows of w: the rows up to `last` are in their buckets, all `count` or as many as have a place.
--- The word of a bucket is its highest row, the word of a row is the one before it in its bucket.
+-- The word of a bucket is its highest row, the word of a row is the one before it in its bucket. The digits are in their place.
 pub record Indexed (w : List ℕ) (count : ℕ) (b : List ℕ) : Type 0 where
   pub long : length b ≡ indexLength
   pub last : ℕ
@@ -41,6 +50,7 @@ pub record Indexed (w : List ℕ) (count : ℕ) (b : List ℕ) : Type 0 where
   pub all : (last ≡ count) ⊎ (last ≡ places)
   pub head : (bucket : ℕ) → bucket < heads → Highest w bucket (last + 1) (getD b bucket 0)
   pub link : (n : ℕ) → 1 ≤ n → n ≤ last → Highest w (bucketOf (rowAt w n)) n (getD b (heads + n - 1) 0)
+  pub digits : DigitTable (digitsIn b)
 
 -- The index b with row n, of the words r, in its bucket; b as it is if row n has no place
 unfoldable pub withRow : List ℕ → (n : ℕ) → Words → List ℕ

@@ -1,5 +1,6 @@
 // Rows looked up by a hash of their words. Of each bucket the highest row is kept, and of each row the one before it
-// in its bucket. Rows that find no place in the index are looked for one after the other.
+// in its bucket. Rows that find no place in the index are looked for one after the other. Behind the rows the index has
+// the table of digits, for the literals: every walk is lent the index.
 use rows::Words;
 use rows::alike;
 use rows::row_at;
@@ -12,13 +13,16 @@ ghost use Rattle.rows.specs.Search.{Found};
 ghost use Rattle.row_index.specs.Index.{heads, bucketOf, withRow, withRows, Indexed, Followed};
 
 // The words of an index: the highest row of each bucket, then, for each row that has a place, the one before it in its
-// bucket.
-pub const LENGTH: usize = 4096;
+// bucket, then the worth of each byte as a digit.
+pub const LENGTH: usize = 4352;
+
+// Where the digits start.
+pub const DIGITS: usize = 4096;
 
 // How many buckets there are.
 const HEADS: usize = 512;
 
-// How many rows have a place: the rest of the index.
+// How many rows have a place.
 const PLACES: u32 = 3584;
 
 // How many rows of a bucket are passed before the rows are looked through one after the other: rows that were made to

@@ -3,6 +3,7 @@
 use declare::declare_items;
 use fallible::ERROR_WIDTH;
 use items::type_check_items;
+use literal::digits::put_digits;
 use node::bytes::HEAD_END;
 use node::bytes::length_at;
 use node::fine::Nodes;
@@ -147,6 +148,7 @@ fn both_passes(
     }
     types::put_fixed_rows(rows);
     let mut index = [0u16; row_index::LENGTH];
+    put_digits(&mut index[row_index::DIGITS..]);
     let index = &mut index;
     row_index::link_all(rows, types::FIXED_COUNT, index);
     let names = built_ins(input);

@@ -36,6 +36,7 @@ use Rattle.expression.proofs.has_one_operand.Reads as has-one-operand-r
 use Rattle.expression.proofs.leaf.Reads as leaf-reads
 use Rattle.expression.proofs.sizeof.Reads as sizeof-reads
 use Rattle.call_rules.proofs.call_result.Reads as call-result-reads
+use Rattle.node.proofs.bytes.half.Reads as half-reads
 use Rattle.node.proofs.bytes.length_at.Reads as length-at-reads
 use Rattle.node.proofs.fine.enter.Reads as enter-reads
 use Rattle.expression_rules.proofs.binary.Reads as binary-reads
@@ -179,10 +180,12 @@ two-operands-claims t = (
 
 abbrev type-check-expression-claims : ℕ → type-check-expression-lts.Claims
 type-check-expression-claims t = (
-  enter-reads.Asked,
-  enter-reads.Learnt,
+  half-reads.Asked,
+  half-reads.Learnt,
   leaf-reads.Asked,
   leaf-reads.Learnt,
+  enter-reads.Asked,
+  enter-reads.Learnt,
   call-below t,
   call.Post,
   cast-below t,
@@ -368,11 +371,14 @@ two-operands-same-length-3 t c = omega (arith, c .before .before .before .before
 two-operands-returns : (t : ℕ) → two-operands-lts.Need-returns (two-operands-claims t) (two-operands-at t) two-operands.Post
 two-operands-returns t c = laws.two-operands-carried (c .before .before .before .before .before .before .before .before .before .before .before .before .before .before .before .before .before .before .before .before .before .before .before .before .before .before .before .before .before .before .before .before .before .before .before .before .before .before .before .before .pre .1 .0) (c .before .before .before .before .before .before .before .before .before .before .before .before .before .before .before .before .before .before .before .before .before .before .before .before .before .before .before .before .before .before .before .before .before .before .before .before .before .before .before .before .pre .1 .1) (c .before .before .before .before .before .before .before .before .before .before .before .before .before .before .before .before .before .before .before .before .before .before .before .before .before .before .before .before .before .type-check-expression .ensures) _ (heads.stops-at _ _ _ (c .before .before .before .before .before .before .before .before .before .before .before .before .before .before .before .before .before .before .before .before .before .length-at .ensures)) (c .before .before .before .before .before .before .before .before .before .before .before .before .before .before .before .before .type-check-expression2 .ensures) _ (c .before .before .before .before .before .before .binary .ensures) _ (c .before .before .put-slot .ensures)
 
-type-check-expression-enter-requires : (t : ℕ) → type-check-expression-lts.Need-enter-requires (type-check-expression-claims t) (type-check-expression-at t) type-check-expression.Post
-type-check-expression-enter-requires t c κs = c .before .before .before .before .before .pre .1 .0
+type-check-expression-add-half : (t : ℕ) → type-check-expression-lts.Need-add-half (type-check-expression-claims t) (type-check-expression-at t) type-check-expression.Post
+type-check-expression-add-half t c = search needs
+
+type-check-expression-half-requires : (t : ℕ) → type-check-expression-lts.Need-half-requires (type-check-expression-claims t) (type-check-expression-at t) type-check-expression.Post
+type-check-expression-half-requires t c κs = omega (arith, heads.slot-room (c .before .before .before .before .before .before .pre .1 .0))
 
 type-check-expression-leaf-requires : (t : ℕ) → type-check-expression-lts.Need-leaf-requires (type-check-expression-claims t) (type-check-expression-at t) type-check-expression.Post
-type-check-expression-leaf-requires t c κs = ((c .before .before .before .before .before .before .before .before .before .pre .1 .0, c .before .before .before .enter .ensures .opened .kinds, c .before .before .if1 .taken), ((c .before .before .before .before .before .before .before .before .before .pre .1 .1) .long, (c .before .before .before .before .before .before .before .before .before .pre .1 .1) .wide))
+type-check-expression-leaf-requires t c κs = ((c .before .before .before .before .before .before .before .before .before .before .before .pre .1 .0, c .before .before .before .before .half .ensures .is, c .before .before .before .if1 .taken), record { long = c .before .before .before .before .before .before .before .before .before .before .before .pre .1 .1 .long; wide = c .before .before .before .before .before .before .before .before .before .before .before .pre .1 .1 .wide; digits = c .before .before .before .before .before .before .before .before .before .before .before .pre .1 .1 .good .indexed .digits })
 
 type-check-expression-same-length : (t : ℕ) → type-check-expression-lts.Need-same-length (type-check-expression-claims t) (type-check-expression-at t) type-check-expression.Post
 type-check-expression-same-length t c = search needs
@@ -381,22 +387,25 @@ type-check-expression-same-length-2 : (t : ℕ) → type-check-expression-lts.Ne
 type-check-expression-same-length-2 t c = search needs
 
 type-check-expression-returns : (t : ℕ) → type-check-expression-lts.Need-returns (type-check-expression-claims t) (type-check-expression-at t) type-check-expression.Post
-type-check-expression-returns t c = c .before .before .before .before .leaf .ensures _ _ _ (c .before .before .before .before .before .before .before .before .before .before .before .before .before .before .pre .1 .1)
+type-check-expression-returns t c = c .before .before .before .before .leaf .ensures _ _ _ (c .before .before .before .before .before .before .before .before .before .before .before .before .before .before .before .before .pre .1 .1)
+
+type-check-expression-enter-requires : (t : ℕ) → type-check-expression-lts.Need-enter-requires (type-check-expression-claims t) (type-check-expression-at t) type-check-expression.Post
+type-check-expression-enter-requires t c κs = c .before .before .before .before .before .before .before .before .pre .1 .0
 
 type-check-expression-call-requires : (t : ℕ) → type-check-expression-lts.Need-call-requires (type-check-expression-claims t) (type-check-expression-at t) type-check-expression.Post
-type-check-expression-call-requires t c κs = (omega (arith, c .before .before .before .before .before .before .before .before .before .before .before .before .pre .0), ((c .before .before .before .before .before .before .before .before .before .before .before .before .pre .1 .0, heads.is-kind (c .before .before .before .before .before .before .before .before .before .before .before .before .pre .1 .0) (c .before .before .before .before .before .before .enter .ensures .opened) (c .before .before .before .before .match .keys1)), c .before .before .before .before .before .before .before .before .before .before .before .before .pre .1 .1))
+type-check-expression-call-requires t c κs = (omega (arith, c .before .before .before .before .before .before .before .before .before .before .before .before .before .before .pre .0), ((c .before .before .before .before .before .before .before .before .before .before .before .before .before .before .pre .1 .0, heads.is-kind (c .before .before .before .before .before .before .before .before .before .before .before .before .before .before .pre .1 .0) (c .before .before .before .before .before .enter .ensures .opened) (c .before .before .before .before .match .keys1)), c .before .before .before .before .before .before .before .before .before .before .before .before .before .before .pre .1 .1))
 
 type-check-expression-cast-requires : (t : ℕ) → type-check-expression-lts.Need-cast-requires (type-check-expression-claims t) (type-check-expression-at t) type-check-expression.Post
-type-check-expression-cast-requires t c κs = (omega (arith, c .before .before .before .before .before .before .before .before .before .before .before .before .pre .0), ((c .before .before .before .before .before .before .before .before .before .before .before .before .pre .1 .0, heads.is-kind (c .before .before .before .before .before .before .before .before .before .before .before .before .pre .1 .0) (c .before .before .before .before .before .before .enter .ensures .opened) (c .before .before .before .before .match .keys2)), c .before .before .before .before .before .before .before .before .before .before .before .before .pre .1 .1))
+type-check-expression-cast-requires t c κs = (omega (arith, c .before .before .before .before .before .before .before .before .before .before .before .before .before .before .pre .0), ((c .before .before .before .before .before .before .before .before .before .before .before .before .before .before .pre .1 .0, heads.is-kind (c .before .before .before .before .before .before .before .before .before .before .before .before .before .before .pre .1 .0) (c .before .before .before .before .before .enter .ensures .opened) (c .before .before .before .before .match .keys2)), c .before .before .before .before .before .before .before .before .before .before .before .before .before .before .pre .1 .1))
 
 type-check-expression-sizeof-requires : (t : ℕ) → type-check-expression-lts.Need-sizeof-requires (type-check-expression-claims t) (type-check-expression-at t) type-check-expression.Post
-type-check-expression-sizeof-requires t c κs = ((c .before .before .before .before .before .before .before .before .before .before .before .before .pre .1 .0, heads.is-kind (c .before .before .before .before .before .before .before .before .before .before .before .before .pre .1 .0) (c .before .before .before .before .before .before .enter .ensures .opened) (c .before .before .before .before .match .keys3)), c .before .before .before .before .before .before .before .before .before .before .before .before .pre .1 .1)
+type-check-expression-sizeof-requires t c κs = ((c .before .before .before .before .before .before .before .before .before .before .before .before .before .before .pre .1 .0, heads.is-kind (c .before .before .before .before .before .before .before .before .before .before .before .before .before .before .pre .1 .0) (c .before .before .before .before .before .enter .ensures .opened) (c .before .before .before .before .match .keys3)), c .before .before .before .before .before .before .before .before .before .before .before .before .before .before .pre .1 .1)
 
 type-check-expression-has-one-operand-requires : (t : ℕ) → type-check-expression-lts.Need-has-one-operand-requires (type-check-expression-claims t) (type-check-expression-at t) type-check-expression.Post
 type-check-expression-has-one-operand-requires t c κs = search needs
 
 type-check-expression-one-operand-requires : (t : ℕ) → type-check-expression-lts.Need-one-operand-requires (type-check-expression-claims t) (type-check-expression-at t) type-check-expression.Post
-type-check-expression-one-operand-requires t c κs = (omega (arith, c .before .before .before .before .before .before .before .before .before .before .before .before .before .before .pre .0), (heads.one-operand-in (c .before .before .before .before .before .before .before .before .enter .ensures) (heads.one-here (c .before .before .before .before .before .before .before .before .before .before .before .before .before .before .pre .1 .0) (c .before .before .before .before .before .before .before .before .enter .ensures .opened) (sym (c .before .before .before .before .before .has-one-operand .ensures) ∙ c .before .before .before .before .if2 .taken)), c .before .before .before .before .before .before .before .before .before .before .before .before .before .before .pre .1 .1))
+type-check-expression-one-operand-requires t c κs = (omega (arith, c .before .before .before .before .before .before .before .before .before .before .before .before .before .before .before .before .pre .0), (heads.one-operand-in (c .before .before .before .before .before .before .before .enter .ensures) (heads.one-here (c .before .before .before .before .before .before .before .before .before .before .before .before .before .before .before .before .pre .1 .0) (c .before .before .before .before .before .before .before .enter .ensures .opened) (sym (c .before .before .before .before .before .has-one-operand .ensures) ∙ c .before .before .before .before .if2 .taken)), c .before .before .before .before .before .before .before .before .before .before .before .before .before .before .before .before .pre .1 .1))
 
 type-check-expression-same-length-3 : (t : ℕ) → type-check-expression-lts.Need-same-length-3 (type-check-expression-claims t) (type-check-expression-at t) type-check-expression.Post
 type-check-expression-same-length-3 t c = search needs
@@ -408,10 +417,10 @@ type-check-expression-same-length-5 : (t : ℕ) → type-check-expression-lts.Ne
 type-check-expression-same-length-5 t c = search needs
 
 type-check-expression-returns-2 : (t : ℕ) → type-check-expression-lts.Need-returns-2 (type-check-expression-claims t) (type-check-expression-at t) type-check-expression.Post
-type-check-expression-returns-2 t c = heads.carried-in (c .before .before .before .before .before .before .before .before .before .before .before .before .before .before .before .enter .ensures) (c .before .before .before .before .before .before .one-operand .ensures)
+type-check-expression-returns-2 t c = heads.carried-in (c .before .before .before .before .before .before .before .before .before .before .before .before .before .before .enter .ensures) (c .before .before .before .before .before .before .one-operand .ensures)
 
 type-check-expression-two-operands-requires : (t : ℕ) → type-check-expression-lts.Need-two-operands-requires (type-check-expression-claims t) (type-check-expression-at t) type-check-expression.Post
-type-check-expression-two-operands-requires t c κs = (omega (arith, c .before .before .before .before .before .before .before .before .before .before .before .before .before .before .pre .0), (heads.two-operands-in (c .before .before .before .before .before .before .before .before .enter .ensures) (heads.two-here (c .before .before .before .before .before .before .before .before .before .before .before .before .before .before .pre .1 .0) (c .before .before .before .before .before .before .before .before .enter .ensures .opened) (c .before .before .before .before .before .before .before .if1 .left) (c .before .before .before .before .before .before .match .rest .0 .0 .1) (c .before .before .before .before .before .before .match .rest .0 .1) (c .before .before .before .before .before .before .match .rest .1) (sym (c .before .before .before .before .before .has-one-operand .ensures) ∙ c .before .before .before .before .if2 .left)), c .before .before .before .before .before .before .before .before .before .before .before .before .before .before .pre .1 .1))
+type-check-expression-two-operands-requires t c κs = (omega (arith, c .before .before .before .before .before .before .before .before .before .before .before .before .before .before .before .before .pre .0), (heads.two-operands-in (c .before .before .before .before .before .before .before .enter .ensures) (heads.two-here (c .before .before .before .before .before .before .before .before .before .before .before .before .before .before .before .before .pre .1 .0) (c .before .before .before .before .before .before .before .enter .ensures .opened) (omega (arith, c .before .before .before .before .before .before .before .before .before .half .ensures .is, c .before .before .before .before .before .before .before .enter .ensures .opened .kinds, c .before .before .before .before .before .before .before .before .if1 .left)) (c .before .before .before .before .before .before .match .rest .0 .0 .1) (c .before .before .before .before .before .before .match .rest .0 .1) (c .before .before .before .before .before .before .match .rest .1) (sym (c .before .before .before .before .before .has-one-operand .ensures) ∙ c .before .before .before .before .if2 .left)), c .before .before .before .before .before .before .before .before .before .before .before .before .before .before .before .before .pre .1 .1))
 
 type-check-expression-same-length-6 : (t : ℕ) → type-check-expression-lts.Need-same-length-6 (type-check-expression-claims t) (type-check-expression-at t) type-check-expression.Post
 type-check-expression-same-length-6 t c = search needs
@@ -459,7 +468,7 @@ type-check-expression-same-length-17 : (t : ℕ) → type-check-expression-lts.N
 type-check-expression-same-length-17 t c = search needs
 
 type-check-expression-returns-6 : (t : ℕ) → type-check-expression-lts.Need-returns-6 (type-check-expression-claims t) (type-check-expression-at t) type-check-expression.Post
-type-check-expression-returns-6 t c = heads.carried-in (c .before .before .before .before .before .before .before .before .before .before .before .before .before .before .before .enter .ensures) (c .before .before .before .before .before .before .two-operands .ensures)
+type-check-expression-returns-6 t c = heads.carried-in (c .before .before .before .before .before .before .before .before .before .before .before .before .before .before .enter .ensures) (c .before .before .before .before .before .before .two-operands .ensures)
 
 abbrev type-check-expressions-Inv-loop : type-check-expressions-lts.InvT-loop
 type-check-expressions-Inv-loop s names work output₀ errors₀ rows₀ index₀ end depth at₀ next₀ output errors rows index at next = lists.Checking s names depth end at₀ (lent work output₀ errors₀ rows₀ index₀ next₀) at (lent work output errors rows index next) × (length errors ≡ length errors₀)
@@ -658,11 +667,13 @@ pub +call+cast+one-operand+two-operands+type-check-expression+type-check-express
     (type-check-expression-claims t)
     (type-check-expression-at t)
     type-check-expression.Post
-    (type-check-expression-enter-requires t)
+    (type-check-expression-add-half t)
+    (type-check-expression-half-requires t)
     (type-check-expression-leaf-requires t)
     (type-check-expression-same-length t)
     (type-check-expression-same-length-2 t)
     (type-check-expression-returns t)
+    (type-check-expression-enter-requires t)
     (type-check-expression-call-requires t)
     (type-check-expression-cast-requires t)
     (type-check-expression-sizeof-requires t)

@@ -19,17 +19,26 @@ length-at-requires c κs = search needs
 add-stop : tie.Need-add-stop
 add-stop c = search needs
 
-sub-from-str-radix : tie.Need-sub-from-str-radix
-sub-from-str-radix c = search needs
+sub-table : tie.Need-sub-table
+sub-table c = search needs
 
-part-from-str-radix-start : tie.Need-part-from-str-radix-start
-part-from-str-radix-start c = search needs
+part-table-start : tie.Need-part-table-start
+part-table-start c = search needs
 
-part-from-str-radix-end : tie.Need-part-from-str-radix-end
-part-from-str-radix-end c = search needs
+part-table-end : tie.Need-part-table-end
+part-table-end c = search needs
 
-from-str-radix-requires : tie.Need-from-str-radix-requires
-from-str-radix-requires c κs = search needs
+sub-from-str-radix-with : tie.Need-sub-from-str-radix-with
+sub-from-str-radix-with c = search needs
+
+part-from-str-radix-with-start : tie.Need-part-from-str-radix-with-start
+part-from-str-radix-with-start c = search needs
+
+part-from-str-radix-with-end : tie.Need-part-from-str-radix-with-end
+part-from-str-radix-with-end c = search needs
+
+from-str-radix-with-requires : tie.Need-from-str-radix-with-requires
+from-str-radix-with-requires c κs = search needs
 
 enum-told : tie.Need-enum-told
 enum-told c = search needs
@@ -61,10 +70,13 @@ integer-spec =
     add-start
     length-at-requires
     add-stop
-    sub-from-str-radix
-    part-from-str-radix-start
-    part-from-str-radix-end
-    from-str-radix-requires
+    sub-table
+    part-table-start
+    part-table-end
+    sub-from-str-radix-with
+    part-from-str-radix-with-start
+    part-from-str-radix-with-end
+    from-str-radix-with-requires
     enum-told
     enum-told-2
     error-at-requires
