@@ -108,10 +108,18 @@ fn casts(count: usize) -> Vec<u8> {
     ])
 }
 
-fn literals(count: usize) -> Vec<u8> {
-    let texts = ["0", "1", "24", "25", "65535", "1000", "7", "300"];
-    let elements = (0..count).map(|i| at(i as u32, literal(texts[i % 8], 10))).collect();
+/// A table of literals in one base.
+fn table(texts: [&str; 8], base: u32, count: usize) -> Vec<u8> {
+    let elements = (0..count).map(|i| at(i as u32, literal(texts[i % 8], base))).collect();
     oracle::hand::complete(vec![global_with(X, array(count as u32, ty(U16)), record(48, &[], elements))])
+}
+
+fn literals(count: usize) -> Vec<u8> {
+    table(["0", "1", "24", "25", "65535", "1000", "7", "300"], 10, count)
+}
+
+fn hexadecimals(count: usize) -> Vec<u8> {
+    table(["0", "ff", "A5", "7fff", "FFFF", "c0de", "1Bad", "3e8"], 16, count)
 }
 
 fn names(count: usize) -> Vec<u8> {
@@ -139,12 +147,13 @@ pub fn classes() -> Vec<Class> {
     for size in [1_000, 2_000, 4_000, 8_000, 16_000, 32_000, MOST_BYTES] {
         put(&format!("joined {size}"), (0..4).map(|i| joined(size, 1_000 * i)).collect());
     }
-    let rows: [Row; 16] = [
+    let rows: [Row; 17] = [
         ("many types", limits::with_rows, &[375, 750, 1_500, 3_000]),
         ("chain of aliases", chain, &[50, 100, 200, 400, 800]),
         ("casts", casts, &[100, 200, 400]),
         ("many errors", limits::with_errors, &[250, 500, 1_000, 2_000]),
         ("many literals", literals, &[250, 500, 1_000, 2_000]),
+        ("hexadecimal literals", hexadecimals, &[250, 500, 1_000, 2_000]),
         ("many globals", names, &[150, 300, 600, 1_000]),
         ("many locals", locals, &[100, 200, 400, 650]),
         ("deep expressions", nested, &[5, 10, 20, 50]),

@@ -156,6 +156,8 @@ struct Compare<'a> {
     by_hand: usize,
     refused: [usize; 8],
     silent: [usize; 3],
+    /// How many modules the reference judged, by their items: none, one, up to four, five and more.
+    judged: [usize; 4],
     orders: usize,
     differences: usize,
 }
@@ -191,7 +193,11 @@ impl Compare<'_> {
             Some(Silence::Undecodable) => self.silent[0] += 1,
             Some(Silence::TooLarge) => self.silent[1] += 1,
             Some(_) => self.silent[2] += 1,
-            None => {}
+            None => {
+                if let Ok((module, _)) = &truth.outcome {
+                    self.judged[[0, 1, 2, 2, 2, 3][module.items.len().min(5)]] += 1;
+                }
+            }
         }
     }
 
@@ -245,6 +251,9 @@ impl Compare<'_> {
         let _ = writeln!(text, ", of these in two orders {}", 2 * self.orders);
         let numbers: Vec<String> = refused.iter().enumerate().map(|(i, count)| format!("{}: {count}", i + 1)).collect();
         let _ = writeln!(text, "accepted {accepted}, refused {}", numbers.join(", "));
+        let [none, one, few, many] = self.judged;
+        let _ = write!(text, "the reference judged {}: without items {none}, ", none + one + few + many);
+        let _ = writeln!(text, "with 1 item {one}, 2 to 4 {few}, 5 or more {many}");
         let [undecodable, large, late] = self.silent;
         let _ = writeln!(text, "the model alone: no UTF-8 {undecodable}, too large {large}, timeout {late}");
         text += &self.stats.missing();
@@ -293,6 +302,7 @@ pub fn compare(seed: u64, count: usize, program: &Path, folder: &Path) -> Result
         by_hand: 0,
         refused: [0; 8],
         silent: [0; 3],
+        judged: [0; 4],
         orders: 0,
         differences: 0,
     };

@@ -26,6 +26,7 @@ pub mod decode;
 pub mod generate;
 pub mod hand;
 pub mod layout;
+pub mod literals;
 pub mod messages;
 pub mod model;
 pub mod orders;

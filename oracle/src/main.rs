@@ -14,7 +14,7 @@ use oracle::{
     compare::{self, first_difference},
     damage, generate,
     layout::{self, Module},
-    model,
+    literals, model,
     reference::{self, MOST_WORK, Silence},
     relate, relations, replay, shuffle,
     stats::Stats,
@@ -35,6 +35,7 @@ const USAGE: &str = "usage:
   oracle compare SEED COUNT PRODUCT DIR
   oracle relations SEED COUNT PRODUCT DIR
   oracle replay ACCEPTED REFUSED DATA NAMES
+  oracle literals DIR
 A folder among FILES stands for the files in it.";
 
 /// How long the reference may think about one module.
@@ -66,6 +67,7 @@ fn main() -> ExitCode {
         ["compare", seed, count, program, folder] => compared(seed, count, program, folder),
         ["relations", seed, count, program, folder] => compared_relations(seed, count, program, folder),
         ["replay", accepted, refused, data, names] => replayed(accepted, refused, data, names),
+        ["literals", folder] => literal_cases(folder),
         _ => Err(USAGE.to_owned()),
     };
     done.unwrap_or_else(|message| {
@@ -289,5 +291,15 @@ fn replayed(accepted: &str, refused: &str, data: &str, names: &str) -> Done {
     write(data, &replay.bytes)?;
     write(names, (replay.names.join("\n") + "\n").as_bytes())?;
     println!("good {} refused {} differ 0", replay.accepted, replay.refused());
+    Ok(ExitCode::SUCCESS)
+}
+
+/// Writes what the program `literal_cases` is given and has to print.
+fn literal_cases(folder: &str) -> Done {
+    fs::create_dir_all(folder).map_err(|e| e.to_string())?;
+    let cases = literals::cases();
+    write(Path::new(folder).join("stdin"), &cases.input)?;
+    write(Path::new(folder).join("stdout"), cases.output.as_bytes())?;
+    println!("{} cases", cases.count);
     Ok(ExitCode::SUCCESS)
 }

@@ -194,6 +194,28 @@ fn literals(all: &mut Vec<Case>) {
     }
     let bytes = Tree::with_bytes(33, Place::default(), &[0, 10], &[0xff]);
     put(all, "literal that is no UTF-8", complete(vec![global_with(X, ty(U16), bytes)]));
+    digits(all);
+}
+
+/// Each base's largest digit and the next one, in both cases of letters, and the bytes on both sides of the digits and letters.
+fn digits(all: &mut Vec<Case>) {
+    let mut put_text = |text: &[u8], base: u32| {
+        let value = Tree::with_bytes(33, Place::default(), &[0, base], text);
+        let items = vec![global_with(X, ty(U16), value)];
+        put(all, format!("literal {} base {base}", text.escape_ascii()), complete(items));
+    };
+    for base in 2..=36_u32 {
+        for digit in base - 1..=base.min(35) {
+            let lower = char::from_digit(digit, 36).unwrap();
+            let mut texts = vec![format!("1{lower}"), format!("1{}", lower.to_ascii_uppercase())];
+            texts.dedup();
+            texts.iter().for_each(|text| put_text(text.as_bytes(), base));
+        }
+    }
+    for byte in [0, 47, 58, 64, 91, 96, 123, 128, 255] {
+        put_text(&[byte], 36);
+        put_text(&[b'1', byte], 36);
+    }
 }
 
 /// Compounds for targets of each sort, as a global's value, a local's and in an assignment.
