@@ -1,7 +1,7 @@
 -- The table of digits: its rule, tested over the whole of it. Assumes nothing.
 use Prim.Native.Nat.{ℕ, zero, suc, _+_, _^_, _≤_, _<_}
 use mathlib.Core.Path.{_≡_, refl, sym, ap, subst, _∙_}
-use mathlib.Core.Bool.{Bool, true, false, _&&_, and-false, true≢false}
+use mathlib.Core.Bool.{Bool, true, false, _&&_, and-false, and-eq-true-iff}
 use mathlib.Core.List.{List}
 use native.Mathlib.Omega.{arith}
 use lib.Dec.{eqb, ltb}
@@ -16,15 +16,11 @@ abbrev pub passesBelow : (n : ℕ) → (test : ℕ → Bool) → Bool
 passesBelow zero test = true
 passesBelow (suc n) test = test n && passesBelow n test
 
-both-passed : (a b : Bool) → a && b ≡ true → (a ≡ true) × (b ≡ true)
-both-passed true b e = (refl, e)
-both-passed false b e = absurd (true≢false (sym e))
-
 -- One computed test of all numbers below n is the test of each of them
 pub passed : (n : ℕ) (test : ℕ → Bool) → passesBelow n test ≡ true → (k : ℕ) → k < n → test k ≡ true
 passed zero test e k h = absurd (omega arith)
 passed (suc n) test e k h =
-    let both = both-passed (test n) (passesBelow n test) e in
+    let both = and-eq-true-iff (test n) (passesBelow n test) .0 e in
     go (both .0) (passed n test (both .1) k) (eqb k n) refl
   where
     go : test n ≡ true → (k < n → test k ≡ true) → (b : Bool) → eqb k n ≡ b → test k ≡ true

@@ -82,13 +82,14 @@ pub fn put_refused(buffer: &mut [u8], used: usize, number: u32, place: usize) ->
     put_text(buffer, placed, b"\n")
 }
 
-// Writes what is held.
+// Writes what is held. There is nothing to promise: no word is lent to write, and no contract can speak of standard
+// output.
 pub fn flush(buffer: &[u8], used: usize) {
     let held = least(used, buffer.len());
     io::write_all(STDOUT_FILENO, &buffer[..held]);
 }
 
-// Prints why a module is turned back.
+// Prints why a module is turned back. Nothing to promise, as of `flush`.
 pub fn print_refused(number: u32, place: usize) {
     let mut buffer = [0u8; BUFFER];
     let held = put_refused(&mut buffer, 0, number, place);
