@@ -14,8 +14,7 @@ use Rattle.node.specs.Names.{namesEnd, itemPlaces, itemBytes}
 use Rattle.node.specs.Layout.{layoutOf}
 use Rattle.node.specs.Record.{itemSlotPlaces}
 use Rattle.node.specs.declared.layout.Layout.the-variants.{Good}
-use Rattle.node.proofs.Open.{names-end}
-use Rattle.meaning.specs.Promise.{Counts, Buffers, Accepted, inSlot, itemPlace, itemAt, outputAt, itemCount}
+use Rattle.meaning.specs.Promise.{Counts, Buffers, Accepted, inSlot, itemPlace, itemAt}
 use Rattle.meaning.proofs.Size.{Consecutive, items-follow}
 use Rattle.demands.specs.Demands.{SlotByte}
 
@@ -75,4 +74,4 @@ module _ (input : List ℕ) (good : layoutOf input ≡ Good) (before after : Buf
       go true e = inr (in-names i (ltb-true i (namesEnd input) e))
       go false e =
           let l = ltb-false i (namesEnd input) e in
-          in-item i (inside input (16 + wordAt input 16) (length input) (itemPlaces input) (items-follow input good) i (omega (arith, names-end input good)) h)
+          in-item i (inside input (namesEnd input) (length input) (itemPlaces input) (items-follow input good) i (omega arith) h)

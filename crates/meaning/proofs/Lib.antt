@@ -7,7 +7,9 @@ pub mod Places
 pub mod After
 pub mod Order
 pub mod Size
+pub mod Cleared
 pub mod Whole
 pub mod Needed
 pub mod TwoOrders
 pub mod Examples
+pub mod EmptyFile

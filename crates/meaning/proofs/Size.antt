@@ -1,24 +1,26 @@
--- A module without a layout fault is its head, its names and its items, and nothing else.
+-- A module without a layout fault is its head, its names and its items, and nothing else; or the file of no bytes.
 -- So its length, and the places of its names, come from the bytes of the names and of the items.
-use Prim.Native.Nat.{ℕ, zero, suc, _+_, _-_, _≤_, min}
+use Prim.Native.Nat.{ℕ, zero, suc, _+_, _-_, _≤_}
 use mathlib.Core.Path.{_≡_, refl, sym, _∙_, ap, ap₂, subst}
-use mathlib.Core.Bool.{Bool, true, false}
+use mathlib.Core.Bool.{Bool, true, false, cond}
 use mathlib.Core.List.{List, [], _∷_, _++_, map, head-eq-of-cons-eq, tail-eq-of-cons-eq}
+use mathlib.Core.Logic.{_⊎_, inl, inr}
 use native.Mathlib.Omega.{arith}
 use lib.Dec.{eqb}
 use lib.ListN.{length, drop, length-take, length-drop}
-use borrow.Author.Tests.{lt-leb, eqb-true, eqb-false}
+use borrow.Author.Tests.{lt-leb, eqb-true, eqb-false, ne-eqb}
 use Rattle.shape.specs.Shape.{pick, aNames, aName, anItem, shapeOf, mayBe, dueIn}
 use Rattle.shape.specs.declared.Holds.{Holds}
 use Rattle.shape.specs.declared.Holds.the-variants.{Items, Names}
 use Rattle.shape.proofs.ShapeLaws.{kind-range}
 use Rattle.node.specs.Bytes.{wordAt}
 use Rattle.node.specs.Names.{stands, chain, namesEnd, namePlaces, nameBytes, namesOf, itemPlaces, itemBytes, itemsOf, isAmong, repeatIn, repeatedName}
-use Rattle.node.specs.Layout.{kindAt, stopAt, layoutOf}
+use Rattle.node.specs.Layout.{kindAt, stopAt, isEmptyFile, layoutOf}
 use Rattle.node.specs.Fine.{FineList, Opened}
 use Rattle.node.specs.declared.names.Repeated.the-variants.{At}
 use Rattle.node.specs.declared.layout.Layout.the-variants.{Good}
-use Rattle.node.proofs.Open.{opened, opened-kind, split-may, fine-stands, ModuleParts, module-parts}
+use Rattle.node.proofs.Open.{opened, opened-kind, split-may, fine-stands}
+use Rattle.node.proofs.Open.{ModuleRecord, empty-or-record, module-parts, names-room, names-end-none, items-list, item-chain}
 
 -- The bytes of records
 unfoldable pub totalLength : List (List ℕ) → ℕ
@@ -29,6 +31,10 @@ totalLength (r ∷ l) = length r + totalLength l
 unfoldable pub namesLength : List (List ℕ) → ℕ
 namesLength [] = 32
 namesLength (n ∷ names) = 16 + length n + namesLength names
+
+-- The file of no bytes has none
+abbrev pub startLength : (isEmpty : Bool) → (names : List (List ℕ)) → ℕ
+startLength isEmpty names = cond isEmpty 0 (namesLength names)
 
 -- Records at these places follow each other from `at` to `end`
 unfoldable pub Consecutive : List ℕ → (at end : ℕ) → (places : List ℕ) → Type 0
@@ -87,49 +93,61 @@ follow s d st c due (suc m) at end h l = go (eqb at end) refl (follow s d st c d
         let y = o .ends in
         rw (fine-stands s d at end c (r .first)) (refl, omega arith, omega arith, f (stopAt s at) end (omega arith) (r .rest))
 
--- A whole module
-module _ (s : List ℕ) (good : layoutOf s ≡ Good) where
-  parts : ModuleParts s
-  parts = module-parts s good
+-- The items of a whole module
+pub items-follow : (s : List ℕ) → layoutOf s ≡ Good → Consecutive s (namesEnd s) (length s) (itemPlaces s)
+unfolding dueIn
+items-follow s good =
+    subst (Consecutive s (namesEnd s) (length s)) (sym (item-chain s good))
+    (follow s 63 Items anItem refl (length s) (namesEnd s) (length s) (omega arith) (items-list s good))
 
+items-size : (s : List ℕ) → layoutOf s ≡ Good → namesEnd s + totalLength (itemsOf s) ≡ length s
+unfolding itemsOf
+items-size s good = items-length s (namesEnd s) (length s) (itemPlaces s) (items-follow s good)
+
+-- The names of a module record
+module _ (s : List ℕ) (m : ModuleRecord s) where
   names-kind : kindAt s 16 ≡ 2
-  names-kind = let p = kind-range aNames 2 2 (kindAt s 16) refl (omega arith) (opened s 63 16 (length s) aNames (parts .names) .belongs) in omega arith
+  names-kind = let p = kind-range aNames 2 2 (kindAt s 16) refl (omega arith) (opened s 63 16 (length s) aNames (module-parts s m .names) .belongs) in omega arith
 
   names : Opened s 63 16 (length s) aNames 2 32 (stopAt s 16)
   unfolding shapeOf
-  names = opened-kind s 63 16 (length s) aNames 2 (parts .names) names-kind
-
-  names-end : namesEnd s ≡ stopAt s 16
-  unfolding namesEnd
-  names-end = omega (arith, names .room)
-
-  items-end : min (wordAt s 0) (length s) ≡ length s
-  items-end = omega (arith, parts .whole)
+  names = opened-kind s 63 16 (length s) aNames 2 (module-parts s m .names) names-kind
 
   names-follow : Consecutive s 32 (stopAt s 16) (namePlaces s)
   unfolding namePlaces dueIn shapeOf
   names-follow =
-      subst (λ x. Consecutive s 32 (stopAt s 16) (chain (length s) s 32 x)) (sym names-end)
+      subst (λ x. Consecutive s 32 (stopAt s 16) (chain (length s) s 32 x)) (sym (names-room s m .end))
       (follow s 62 Names aName refl (length s) 32 (stopAt s 16) (omega (arith, names .room)) (names .children))
 
-  pub items-follow : Consecutive s (stopAt s 16) (length s) (itemPlaces s)
-  unfolding itemPlaces dueIn
-  items-follow =
-      subst (λ x. Consecutive s (stopAt s 16) (length s) (chain (length s) s x (min (wordAt s 0) (length s)))) (sym names-end)
-      (subst (λ x. Consecutive s (stopAt s 16) (length s) (chain (length s) s (stopAt s 16) x)) (sym items-end)
-      (follow s 63 Items anItem refl (length s) (stopAt s 16) (length s) (omega arith) (parts .items)))
-
-  good-size : length s ≡ namesLength (namesOf s) + totalLength (itemsOf s)
-  unfolding namesOf itemsOf
-  good-size = omega (arith, names-length s 32 (stopAt s 16) (namePlaces s) names-follow, items-length s (stopAt s 16) (length s) (itemPlaces s) items-follow)
-
-  good-places : namePlaces s ≡ placesFrom 32 (namesOf s)
+  names-size : namesEnd s ≡ namesLength (namesOf s)
   unfolding namesOf
-  good-places = names-places s 32 (stopAt s 16) (namePlaces s) names-follow
+  names-size = omega (arith, names-length s 32 (stopAt s 16) (namePlaces s) names-follow, names-room s m .end)
 
--- The length of a module that passes tests 1 to 3
-pub size : (m : List ℕ) → layoutOf m ≡ Good → length m ≡ namesLength (namesOf m) + totalLength (itemsOf m)
-size m e = good-size m e
+  names-from : namePlaces s ≡ placesFrom 32 (namesOf s)
+  unfolding namesOf
+  names-from = names-places s 32 (stopAt s 16) (namePlaces s) names-follow
+
+-- The bytes before the items, and the places of the names, of a module that passes tests 1 to 3
+start-size : (s : List ℕ) → layoutOf s ≡ Good → namesEnd s ≡ startLength (isEmptyFile s) (namesOf s)
+start-size s good = go (empty-or-record s good)
+  where
+    go : (s ≡ []) ⊎ ModuleRecord s → namesEnd s ≡ startLength (isEmptyFile s) (namesOf s)
+    go (inl e) = subst (λ (x : List ℕ). namesEnd x ≡ startLength (isEmptyFile x) (namesOf x)) (sym e) names-end-none
+    go (inr m) =
+        let some : isEmptyFile s ≡ false = ne-eqb (length s) 0 (λ (z : length s ≡ 0). omega (arith, m .some)) in
+        names-size s m ∙ ap (λ (b : Bool). startLength b (namesOf s)) (sym some)
+
+good-places : (s : List ℕ) → layoutOf s ≡ Good → namePlaces s ≡ placesFrom 32 (namesOf s)
+unfolding chain namePlaces namesOf placesFrom
+good-places s good = go (empty-or-record s good)
+  where
+    go : (s ≡ []) ⊎ ModuleRecord s → namePlaces s ≡ placesFrom 32 (namesOf s)
+    go (inl e) = subst (λ (x : List ℕ). namePlaces x ≡ placesFrom 32 (namesOf x)) (sym e) refl
+    go (inr m) = names-from s m
+
+-- Its length
+pub size : (m : List ℕ) → layoutOf m ≡ Good → length m ≡ startLength (isEmptyFile m) (namesOf m) + totalLength (itemsOf m)
+size m good = sym (items-size m good) ∙ ap (λ (n : ℕ). n + totalLength (itemsOf m)) (start-size m good)
 
 -- Test 4 looks at the names' bytes and places only, and the places come from the bytes
 same-repeat : (m k : List ℕ) (earlier : List (List ℕ)) (ps : List ℕ) → map (nameBytes m) ps ≡ map (nameBytes k) ps → repeatIn m earlier ps ≡ repeatIn k earlier ps

@@ -86,6 +86,7 @@ suppositions-met = (
     names = refl;
     items = λ bytes. times-permuted sameBytes bytes
         (List·Permᴰ·cons {a = aliasA} refl (List·Permᴰ·swap {a = variable 2} {b = variable 3} {l = []} refl refl));
+    empty = refl;
   },
   supposed (inOrder (variable 2) (variable 3)) 2 3 (omega arith) refl refl,
   supposed (inOrder (variable 3) (variable 2)) 3 2 (omega arith) refl refl,

@@ -1,6 +1,6 @@
 -- Demand 3 over two whole runs, from the trees of the items.
 use Prim.Native.Nat.{ℕ, _+_, _*_}
-use mathlib.Core.Path.{_≡_, refl, sym, _∙_, ap, ap₂, subst, subst₂}
+use mathlib.Core.Path.{_≡_, refl, sym, _∙_, ap, subst, subst₂}
 use mathlib.Core.Bool.{_||_}
 use mathlib.Core.List.{List, [], _∷_, List·Permᴰ, Permᴰ·map}
 use native.Mathlib.Omega.{arith}
@@ -20,7 +20,7 @@ use Rattle.meaning.specs.JoiningOrder.{AnotherOrder, Supposed, Alike, Ac
 use Rattle.meaning.proofs.Permutation.{permutation, invariant, length-permuted, times-permuted}
 use Rattle.meaning.proofs.Equality.{bytes-equal, distinct-permuted}
 use Rattle.meaning.proofs.Places.{precede}
-use Rattle.meaning.proofs.Size.{totalLength, namesLength, size, same-repeated}
+use Rattle.meaning.proofs.Size.{totalLength, startLength, size, same-repeated}
 use Rattle.meaning.proofs.Order.{SupposedItems, same-context, errors-permuted, types-permuted}
 
 total-permuted : {l r : List (List ℕ)} → List·Permᴰ l r → totalLength l ≡ totalLength r
@@ -69,7 +69,8 @@ module _ (m k : List ℕ) (other : AnotherOrder m k) (sm : Supposed m) (sk : Sup
       (types-permuted (builtInsOf m) (treesOf m) (treesOf k) trees-permuted (supposed-items m sm) (supposed-items k sk))
 
   lengths : length m ≡ length k
-  lengths = size m (sm .layout) ∙ ap₂ (λ ns n. namesLength ns + n) (other .names) (total-permuted items-permuted) ∙ sym (size k (sk .layout))
+  lengths =
+      size m (sm .layout) ∙ (λ i. startLength (other .empty i) (other .names i) + total-permuted items-permuted i) ∙ sym (size k (sk .layout))
 
   counts : countsOf m ≡ countsOf k
   counts = λ i. record { rows = distinct-permuted types i; errors = length-permuted errors i }

@@ -8,7 +8,7 @@ use lib.ListN.{length, getD}
 use Rattle.types.specs.Ty.{same}
 use Rattle.fallible.specs.Outcome.{Outcome, refused, accepted}
 use Rattle.node.specs.Bytes.{byteAt}
-use Rattle.node.specs.Layout.{layoutOf}
+use Rattle.node.specs.Layout.{isEmptyFile, layoutOf}
 use Rattle.node.specs.declared.layout.Layout.the-variants.{Good}
 use Rattle.node.specs.Names.{namesOf, itemsOf, sameBytes}
 use Rattle.node.specs.Record.{itemSlotPlaces}
@@ -35,10 +35,12 @@ unfoldable pub timesIn : {A : Type 0} → (equal : A → A → Bool) → A → L
 timesIn equal a [] = 0
 timesIn equal a (b ∷ l) = cond (equal a b) (suc (timesIn equal a l)) (timesIn equal a l)
 
--- Another order has the same name bytes, number by number, and the same item records, byte for byte and each equally often
+-- Another order has the same name bytes, number by number, and the same item records, byte for byte and each equally often; both or
+-- neither are the file of no bytes
 pub record AnotherOrder (m k : List ℕ) : Type 0 where
   pub names : namesOf m ≡ namesOf k
   pub items : (bytes : List ℕ) → timesIn sameBytes bytes (itemsOf m) ≡ timesIn sameBytes bytes (itemsOf k)
+  pub empty : isEmptyFile m ≡ isEmptyFile k
 
 -- What the records 16 at any depth in a type name
 unfoldable pub namedIn : TypeNode → List ℕ

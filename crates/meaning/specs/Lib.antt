@@ -10,3 +10,4 @@ pub mod Promise
 pub mod JoiningOrder
 pub mod BenchSheet
 pub mod Examples
+pub mod EmptyFile

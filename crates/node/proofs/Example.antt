@@ -18,8 +18,13 @@ good : (length example ≡ 112) × (layoutOf example ≡ Good) × (nameCount exa
 unfolding halfAt wordAt shapeOf dueIn isDone mayStand stateAfter allowed stands chain namesEnd namePlaces nameBytes namesOf nameCount sameBytes isAmong indexOf numberOf repeatIn repeatedName itemPlaces isBad headAt listAt recordAt layoutOf
 good = (refl, refl, refl, refl, refl, refl, refl)
 
--- the empty file, a module head alone, a byte after the module, a name field past the names
-faults : (layoutRefusal (layoutOf []) ≡ some (2, 0)) × (layoutRefusal (layoutOf (head 16 1 0 0)) ≡ some (2, 16)) × (layoutRefusal (layoutOf (example ++ (0 ∷ []))) ≡ some (2, 112)) × (layoutRefusal (layoutOf (take 108 example ++ word 2)) ≡ some (2, 108))
+-- the file of no bytes
+empty : layoutOf [] ≡ Good
+unfolding layoutOf
+empty = refl
+
+-- one byte, a module head alone, a byte after the module, a name field past the names
+faults : (layoutRefusal (layoutOf (16 ∷ [])) ≡ some (2, 0)) × (layoutRefusal (layoutOf (head 16 1 0 0)) ≡ some (2, 16)) × (layoutRefusal (layoutOf (example ++ (0 ∷ []))) ≡ some (2, 112)) × (layoutRefusal (layoutOf (take 108 example ++ word 2)) ≡ some (2, 108))
 unfolding halfAt wordAt shapeOf dueIn isDone mayStand stateAfter allowed stands chain namesEnd namePlaces nameBytes namesOf nameCount sameBytes isAmong indexOf numberOf repeatIn repeatedName itemPlaces isBad headAt listAt recordAt layoutOf layoutRefusal
 faults = (refl, refl, refl, refl)
 

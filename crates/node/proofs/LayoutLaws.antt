@@ -16,9 +16,9 @@ use Rattle.shape.specs.declared.Holds.the-variants.{OneModule}
 use Rattle.shape.specs.declared.Shape.{Shape}
 use Rattle.shape.specs.declared.Due.{Due}
 use Rattle.shape.proofs.ShapeLaws.{and-both}
-use Rattle.node.specs.Bytes.{halfAt, wordAt}
+use Rattle.node.specs.Bytes.{halfAt, wordAt, headSize}
 use Rattle.node.specs.Names.{nameCount}
-use Rattle.node.specs.Layout.{maxBytes, maxDepth, shapeAt, startAt, stopAt, isWhole, isBad, headAt, andThen, afterHead, listStep, listAt, recordAt, layoutOf, layoutRefusal, layoutTests, LayoutOfList}
+use Rattle.node.specs.Layout.{maxBytes, maxDepth, shapeAt, startAt, stopAt, isWhole, isBad, headAt, answerIf, andThen, afterHead, listStep, listAt, recordAt, layoutOf, layoutRefusal, layoutTests, LayoutOfList}
 use Rattle.node.specs.declared.layout.Layout.{Layout}
 use Rattle.node.proofs.layout.Layout.{the-type}
 use Rattle.node.specs.declared.layout.Layout.the-variants.{Good, TooLong, Fault, TooDeep}
@@ -218,19 +218,44 @@ module _ (n : ℕ) (s : List ℕ) (d from end : ℕ) (st₀ : Holds) (at : ℕ) 
           walk-past start stop hs nx e due₁ e₁ b₁ eb₁ p₁ le = walk-on start stop hs nx e Good (walked-at-once n s (d - 1) start stop hs due₁ e₁ b₁ eb₁ p₁) le refl
 
 module _ (s : List ℕ) where
-  is-too-long : maxBytes < length s → TooLong ≡ layoutOf s
+  is-empty : length s ≡ 0 → Good ≡ layoutOf s
   unfolding layoutOf
-  is-too-long p = simp (lt-ltb _ _ p)
+  is-empty e = simp (eq-eqb (length s) 0 e)
 
-  is-walked : (n : ℕ) (r : Layout) → length s ≤ maxBytes → n ≡ nameCount s → LayoutOfList n s maxDepth 0 (length s) OneModule r → r ≡ layoutOf s
+  is-too-long : (length s ≡ 0 → ⊥) → maxBytes < length s → TooLong ≡ layoutOf s
   unfolding layoutOf
-  is-walked n r p e w = simp (le-ltb _ _ p, ← e) (w .is (suc (length s)) (omega arith))
+  is-too-long some p = simp (ne-eqb (length s) 0 some, lt-ltb _ _ p)
 
-  pub layout-long : maxBytes < length s → layoutRefusal TooLong ≡ layoutTests s
-  layout-long p = ap layoutRefusal (is-too-long p)
+  is-walked : (n : ℕ) (r : Layout) → (length s ≡ 0 → ⊥) → length s ≤ maxBytes → n ≡ nameCount s → LayoutOfList n s maxDepth 0 (length s) OneModule r → r ≡ layoutOf s
+  unfolding layoutOf
+  is-walked n r some p e w = simp (ne-eqb (length s) 0 some, le-ltb _ _ p, ← e) (w .is (suc (length s)) (omega arith))
 
-  pub layout-walked : (n : ℕ) (r : Layout) → length s ≤ maxBytes → n ≡ nameCount s → LayoutOfList n s maxDepth 0 (length s) OneModule r → layoutRefusal r ≡ layoutTests s
-  layout-walked n r p e w = ap layoutRefusal (is-walked n r p e w)
+  pub layout-empty : length s ≡ 0 → layoutRefusal Good ≡ layoutTests s
+  layout-empty e = ap layoutRefusal (is-empty e)
+
+  pub layout-long : (length s ≡ 0 → ⊥) → maxBytes < length s → layoutRefusal TooLong ≡ layoutTests s
+  layout-long some p = ap layoutRefusal (is-too-long some p)
+
+  pub layout-walked : (n : ℕ) (r : Layout) → (length s ≡ 0 → ⊥) → length s ≤ maxBytes → n ≡ nameCount s → LayoutOfList n s maxDepth 0 (length s) OneModule r
+      → layoutRefusal r ≡ layoutTests s
+  layout-walked n r some p e w = ap layoutRefusal (is-walked n r some p e w)
+
+  -- a file of 1 to 15 bytes has no room for the head of a module
+  no-head : (d : ℕ) → 1 ≤ d → length s < headSize → recordAt (nameCount s) s d 0 (length s) (dueIn OneModule) ≡ Fault 0
+  no-head d p few =
+      record-step (nameCount s) s d 0 (length s) (dueIn OneModule) p
+      ∙ ap (afterHead (λ a b h. listAt (recordAt (nameCount s) s (d - 1)) s (suc (length s)) a b h)) (sym (head-room (nameCount s) s 0 (length s) (dueIn OneModule) (omega arith)))
+
+  no-module : (one : ℕ → ℕ → Due → Layout) → one 0 (length s) (dueIn OneModule) ≡ Fault 0 → listAt one s (suc (length s)) 0 (length s) OneModule ≡ Fault 0
+  unfolding listAt dueIn isDone
+  no-module one e = ap (λ (l : Layout). andThen l (λ _. listAt one s (length s) (stopAt s 0) (length s) (stateAfter (dueIn OneModule) (shapeAt s 0 .class)))) e
+
+  pub layout-short : 1 ≤ length s → length s < headSize → layoutOf s ≡ Fault 0
+  unfolding layoutOf
+  layout-short some few =
+      (λ i. answerIf (ne-eqb (length s) 0 (λ (z : length s ≡ 0). omega arith) i) Good (λ _.
+      answerIf (le-ltb maxBytes (length s) (omega arith) i) TooLong (λ _.
+      no-module (recordAt (nameCount s) s maxDepth) (no-head maxDepth (omega arith) few) i)))
 
 -- only a good layout has no refusal
 pub only-good : (l : Layout) → layoutRefusal l ≡ none → l ≡ Good

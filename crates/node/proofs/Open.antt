@@ -1,8 +1,9 @@
--- A record with no fault in its layout, opened: what its head says, and that its children have no fault. The same for a list. Assumes nothing.
+-- A record with no fault in its layout, opened: what its head says, and that its children have no fault. The same for a list, and for a
+-- whole file. Assumes nothing.
 use Prim.Native.Nat.{ℕ, zero, suc, _+_, _-_, _*_, _≤_, _<_, min}
 use mathlib.Core.Path.{_≡_, refl, sym, _∙_, ap, subst}
 use mathlib.Core.Bool.{Bool, true, false, _||_, and-false}
-use mathlib.Core.List.{List}
+use mathlib.Core.List.{List, [], _∷_}
 use mathlib.Core.Logic.{_⊎_, inl, inr}
 use lib.ListN.{length}
 use lib.Dec.{leb, ltb, eqb}
@@ -264,23 +265,34 @@ fine-stands s d at end c f =
     let r = o .room in
     simp (le-leb (at + 16) end (omega arith), le-leb 16 (wordAt s at) (omega arith), le-leb (at + wordAt s at) end r)
 
--- A module with no fault: it is the whole file, its names come first, then its items
+-- A file of some bytes with no fault: it is one module record
+pub record ModuleRecord (s : List ℕ) : Type 0 where
+  pub layout : layoutOf s ≡ Good
+  pub some : 1 ≤ length s
+
+pub empty-or-record : (s : List ℕ) → layoutOf s ≡ Good → (s ≡ []) ⊎ ModuleRecord s
+empty-or-record [] e = inl refl
+empty-or-record (x ∷ s) e = inr (record { layout = e; some = omega arith })
+
+-- The module is the whole file, its names come first, then its items
 pub record ModuleParts (s : List ℕ) : Type 0 where
   pub few : length s ≤ maxBytes
   pub whole : wordAt s 0 ≡ length s
   pub names : FineRecord s 63 16 (length s) aNames
   pub items : FineList s 63 (16 + wordAt s 16) (length s) Items
 
-pub module-list : (s : List ℕ) → layoutOf s ≡ Good → FineList s maxDepth 0 (length s) OneModule
+pub module-list : (s : List ℕ) → ModuleRecord s → FineList s maxDepth 0 (length s) OneModule
 unfolding layoutOf
-module-list s e = go (ltb maxBytes (length s)) refl e
+module-list s m = go (eqb (length s) 0) refl (ltb maxBytes (length s)) refl (m .layout)
   where
-    go : (b : Bool) → ltb maxBytes (length s) ≡ b → answerIf b TooLong (λ _. listAt (recordAt (nameCount s) s maxDepth) s (suc (length s)) 0 (length s) OneModule) ≡ Good
+    go : (b : Bool) → eqb (length s) 0 ≡ b → (c : Bool) → ltb maxBytes (length s) ≡ c
+        → answerIf b Good (λ _. answerIf c TooLong (λ _. listAt (recordAt (nameCount s) s maxDepth) s (suc (length s)) 0 (length s) OneModule)) ≡ Good
         → FineList s maxDepth 0 (length s) OneModule
-    go true f g = long-good g
-    go false f g = record { part = record { starts = omega arith; ends = omega arith; few = ltb-false maxBytes (length s) f }; fuel = suc (length s); ok = g }
+    go true e c f g = absurd (omega (arith, m .some, eqb-true (length s) 0 e))
+    go false e true f g = long-good g
+    go false e false f g = record { part = record { starts = omega arith; ends = omega arith; few = ltb-false maxBytes (length s) f }; fuel = suc (length s); ok = g }
 
-pub module-parts : (s : List ℕ) → layoutOf s ≡ Good → ModuleParts s
+pub module-parts : (s : List ℕ) → ModuleRecord s → ModuleParts s
 unfolding shapeOf dueIn
 module-parts s e =
     let n = length s in
@@ -296,19 +308,66 @@ module-parts s e =
       items = subst (λ (x : ℕ). FineList s 63 (16 + wordAt s 16) x Items) w (p .rest);
     }
 
--- and so the chains of the names and of the items run over all of it
-pub names-end : (s : List ℕ) → layoutOf s ≡ Good → namesEnd s ≡ 16 + wordAt s 16
-unfolding namesEnd
-names-end s e =
-    let m = module-parts s e in
-    let o = opened s 63 16 (length s) aNames (m .names) in
-    let r = o .room in
-    omega arith
+-- The record of the names lies in the file, and ends where the chain of the names does
+pub record NamesRoom (s : List ℕ) : Type 0 where
+  pub fits : 20 ≤ length s
+  pub low : 32 ≤ 16 + wordAt s 16
+  pub inside : 16 + wordAt s 16 ≤ length s
+  pub end : namesEnd s ≡ 16 + wordAt s 16
 
-pub item-chain : (s : List ℕ) → layoutOf s ≡ Good → itemPlaces s ≡ chain (length s) s (16 + wordAt s 16) (length s)
+pub names-room : (s : List ℕ) → ModuleRecord s → NamesRoom s
+unfolding namesEnd
+names-room s m =
+    let o = opened s 63 16 (length s) aNames (module-parts s m .names) in
+    let h = o .head in
+    let b = o .body in
+    let r = o .room in
+    record { fits = omega arith; low = omega arith; inside = r; end = omega arith }
+
+-- Of every file with no fault, that of no bytes too: its items follow its names, to its end
+pub names-inside : (s : List ℕ) → namesEnd s ≤ length s
+unfolding namesEnd
+names-inside s = omega arith
+
+pub names-end-none : namesEnd [] ≡ 0
+names-end-none = omega (arith, names-inside [])
+
+pub few-bytes : (s : List ℕ) → layoutOf s ≡ Good → length s ≤ maxBytes
+few-bytes s e = go (empty-or-record s e)
+  where
+    go : (s ≡ []) ⊎ ModuleRecord s → length s ≤ maxBytes
+    go (inl n) = omega (arith, ap length n)
+    go (inr m) = module-parts s m .few
+
+pub items-list : (s : List ℕ) → layoutOf s ≡ Good → FineList s 63 (namesEnd s) (length s) Items
+unfolding listAt dueIn isDone
+items-list s e = go (empty-or-record s e)
+  where
+    none : FineList [] 63 0 0 Items
+    none = record { part = record { starts = omega arith; ends = omega arith; few = omega arith }; fuel = 1; ok = refl }
+
+    go : (s ≡ []) ⊎ ModuleRecord s → FineList s 63 (namesEnd s) (length s) Items
+    go (inl n) = subst (λ (x : List ℕ). FineList x 63 (namesEnd x) (length x) Items) (sym n) (subst (λ (k : ℕ). FineList [] 63 k 0 Items) (sym names-end-none) none)
+    go (inr m) = subst (λ (k : ℕ). FineList s 63 k (length s) Items) (sym (names-room s m .end)) (module-parts s m .items)
+
+pub item-chain : (s : List ℕ) → layoutOf s ≡ Good → itemPlaces s ≡ chain (length s) s (namesEnd s) (length s)
 unfolding itemPlaces
-item-chain s e =
-    let m = module-parts s e in
-    let w = m .whole in
-    let q : min (wordAt s 0) (length s) ≡ length s = omega arith in
-    λ i. chain (length s) s (names-end s e i) (q i)
+item-chain s e = ap (chain (length s) s (namesEnd s)) (go (empty-or-record s e))
+  where
+    go : (s ≡ []) ⊎ ModuleRecord s → min (wordAt s 0) (length s) ≡ length s
+    go (inl n) = omega (arith, ap length n)
+    go (inr m) = let w = module-parts s m .whole in omega arith
+
+-- What `items_start` asks for and answers
+pub start-of-none : (s : List ℕ) → length s ≡ 0 → 0 ≡ namesEnd s
+start-of-none s e = omega (arith, names-inside s)
+
+module _ (s : List ℕ) (e : layoutOf s ≡ Good) (some : length s ≡ 0 → ⊥) where
+  has-bytes : ModuleRecord s
+  has-bytes = record { layout = e; some = omega arith }
+
+  pub start-fits : 16 + 4 ≤ length s
+  start-fits = names-room s has-bytes .fits
+
+  pub start-said : {w : ℕ} → w ≡ wordAt s 16 → 16 + w ≡ namesEnd s
+  start-said q = ap (λ (k : ℕ). 16 + k) q ∙ sym (names-room s has-bytes .end)

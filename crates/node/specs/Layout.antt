@@ -92,10 +92,16 @@ unfoldable pub recordAt : (names : ℕ) → List ℕ → (depth at end : ℕ) �
 recordAt n s zero at end due = TooDeep at
 recordAt n s (suc d) at end due = afterHead (λ start stop holds. listAt (recordAt n s d) s (suc (length s)) start stop holds) (headAt n s at end due)
 
--- refusals 1 to 3: the file is one module, at depth 1
+-- the file of no bytes
+abbrev pub isEmptyFile : List ℕ → Bool
+isEmptyFile s = eqb (length s) 0
+
+-- refusals 1 to 3: the file of no bytes is the module without names and items; any other file is one module record, at depth 1
 unfoldable pub layoutOf : List ℕ → Layout
 layoutOf s =
-    answerIf (ltb maxBytes (length s)) TooLong (λ _. listAt (recordAt (nameCount s) s maxDepth) s (suc (length s)) 0 (length s) OneModule)
+    answerIf (isEmptyFile s) Good (λ _.
+    answerIf (ltb maxBytes (length s)) TooLong (λ _.
+    listAt (recordAt (nameCount s) s maxDepth) s (suc (length s)) 0 (length s) OneModule))
 
 -- the number and the place of each case
 unfoldable pub layoutRefusal : Layout → Option (ℕ × ℕ)

@@ -22,7 +22,9 @@ ghost use Prim.Native.Nat.{_+_, _≤_};
 ghost use lib.ListN.{length};
 ghost use Rattle.contract.specs.Moments.{old};
 ghost use Rattle.node.specs.Layout.{Part, isBad, headAt, LayoutOfList, layoutRefusal};
-ghost use Rattle.node.specs.Layout.{layoutTests};
+ghost use Rattle.node.specs.Layout.{layoutOf, layoutTests};
+ghost use Rattle.node.specs.Names.{namesEnd};
+ghost use Rattle.node.specs.declared.layout.Layout.the-variants.{Good};
 
 // The most bytes of a module, and the most levels of records, the module being the first.
 pub const MAX_BYTES: usize = 65536;
@@ -131,13 +133,27 @@ fn walk_list(s: &[u8], names: u32, from: usize, end: usize, depth: usize, holds:
     }
 }
 
-// Refusals 1 to 3, in the order in which a walk in byte order meets them.
+// Refusals 1 to 3, in the order in which a walk in byte order meets them. A file of no bytes has none.
 pub fn check_layout(s: &[u8]) -> Layout
     ensures { λ r. ⌜ layoutRefusal r ≡ layoutTests (old s) ⌝ }
 {
     let n = s.len();
+    if n == 0 {
+        return Layout::Good;
+    }
     if MAX_BYTES < n {
         return Layout::TooLong;
     }
     walk_list(s, name_count(s), 0, n, MAX_DEPTH, Holds::OneModule)
+}
+
+// Where the items of a module with no fault start: after its names, and at 0 in a file of no bytes.
+pub fn items_start(s: &[u8]) -> usize
+    requires { ⌜ layoutOf (now s) ≡ Good ⌝ }
+    ensures { λ r. ⌜ r ≡ namesEnd (old s) ⌝ }
+{
+    if s.len() == 0 {
+        return 0;
+    }
+    HEAD_END + length_at(s, HEAD_END)
 }

@@ -1,31 +1,30 @@
 -- What the check of the words says of the records. Assumes nothing.
 use Prim.Native.Nat.{ℕ, _+_, _*_, _/_, _≤_, _<_}
 use mathlib.Core.Path.{_≡_, refl, sym, _∙_, ap, subst}
-use mathlib.Core.Bool.{Bool, true, false, cond, _||_}
+use mathlib.Core.Bool.{Bool, true, false, cond}
 use mathlib.Core.List.{List, [], _∷_, _++_, map}
 use mathlib.Core.Option.{Option, none, some}
 use native.Mathlib.Omega.{arith}
 use lib.Dec.{leb, ltb}
 use lib.ListN.{length, take, drop, replicate, length-replicate}
 use lib.Seq.{length-take-le, take-at, drop-at}
-use borrow.Author.Tests.{lt-ltb, le-leb, lt-leb, leb-true, leb-false, ltb-false}
+use borrow.Author.Tests.{le-leb, lt-leb, leb-true, leb-false, ltb-false}
 use Rattle.types.specs.Table.{rowWidth}
 use Rattle.fallible.specs.Outcome.{Outcome, refused, accepted, orNext, firstRefusing, outcomeAfter}
 use Rattle.fallible.specs.Errors.{errorWidth, errorsFrom}
 use Rattle.fallible.specs.declared.Error.{Error}
 use Rattle.node.specs.Layout.{layoutOf, layoutRefusal}
-use Rattle.node.specs.Names.{namesOf, nameCount, repeatedName, nameRefusal}
-use Rattle.node.specs.declared.layout.Layout.{Layout}
-use Rattle.node.specs.declared.layout.Layout.the-variants.{Good, TooLong, Fault, TooDeep}
-use Rattle.node.specs.declared.names.Repeated.{Repeated}
-use Rattle.node.specs.declared.names.Repeated.the-variants.{Nowhere, At}
-use Rattle.meaning.specs.Promise.{Counts, Buffers, Lengths, lengthsOf, countsOf, workWidth, refuseIf, answerOf, unfoldError, errorsOf, Checked}
+use Rattle.node.specs.Names.{repeatedName, nameRefusal}
+use Rattle.meaning.specs.Promise.{Counts, Buffers, Lengths, lengthsOf, countsOf, refuseIf, answerOf, unfoldError, errorsOf, Checked}
+use Rattle.meaning.proofs.Cleared.{cleared-all}
 use Rattle.type_check.specs.declared.Answer.{Answer}
 use Rattle.type_check.specs.declared.Answer.the-variants.{Accepted, Refused}
-use Rattle.type_check.specs.Post.{buffers, outcomeOf, loanRefusal, Passed}
-use Rattle.type_check.proofs.Outcomes.{cleared-all, accepted-counts, refused-never}
-use Rattle.type_check.proofs.Ending.{names-room}
-use Rattle.records.specs.Records.{noLoan, wordsFor, CheckedWords, recordsFrom, zeroRecord, recordCount, recordsAfter, CheckedRecords}
+use Rattle.type_check.specs.declared.Refusal.{Refusal}
+use Rattle.type_check.specs.declared.Refusal.the-variants.{Never, Because}
+use Rattle.type_check.specs.Post.{buffers, outcomeOf, refusalOf, moduleRefusal, loanRefusal}
+use Rattle.type_check.proofs.Outcomes.{accepted-counts, refused-never}
+use Rattle.type_check.proofs.Promise.{Low as LowRefusal, low-module}
+use Rattle.records.specs.Records.{tooFewWords, wordsFor, CheckedWords, recordsFrom, zeroRecord, recordCount, recordsAfter, CheckedRecords}
 use Rattle.records.proofs.Laws.{errors-long, records-none, records-all, errors-of-front, errors-of-zeros}
 
 -- ---- how many records are filled, where the module is turned back
@@ -35,59 +34,30 @@ none-filled {answer} {number} {place} lent e p = ap (λ (b : Bool). cond b 0 len
 pub all-filled : {answer : Answer} {number place : ℕ} (lent : ℕ) → answer ≡ Refused number place → 5 < number → lent ≡ recordCount (outcomeOf answer) lent
 all-filled {answer} {number} {place} lent e p = ap (λ (b : Bool). cond b 0 lent) (sym (lt-leb number 5 p)) ∙ ap (λ (a : Answer). recordCount (outcomeOf a) lent) (sym e)
 
--- ---- nothing lent
+-- ---- too few words
 abbrev Low : Outcome Counts → Type 0
 Low (refused number place) = number ≤ 5
 Low (accepted counts) = ⊥
 
-good-long : (input : List ℕ) → layoutOf input ≡ Good → repeatedName input ≡ Nowhere → ltb 0 (length input) ≡ true
-good-long input good once =
-    let passed : Passed input (length input) (workWidth * nameCount input) = record { layout = good; names = once; long = omega arith; wide = omega arith } in
-    let p = names-room passed in
-    lt-ltb 0 (length input) (omega arith)
+-- Tests 1 to 4 and then 5 refuse with 1 to 5
+too-few-low : (t : Option (ℕ × ℕ)) → LowRefusal t → Low (outcomeAfter t (refused 5 0))
+too-few-low none p = omega arith
+too-few-low (some r) p = p
 
--- The tests past the names, where the first loan is too short or not.
-abbrev past-names : (input : List ℕ) → Bool → Option (ℕ × ℕ)
-past-names input b =
-    firstRefusing
-    (refuseIf (b || ltb 0 (workWidth * length (namesOf input))) 5 ∷ refuseIf (ltb 0 (rowWidth * countsOf input .rows)) 6 ∷ refuseIf (ltb 0 (errorWidth * countsOf input .errors)) 7 ∷ [])
+module _ (input : List ℕ) {r : Refusal} (e : refusalOf r ≡ moduleRefusal input) where
+  after : {y : Refusal} → r ≡ y → outcomeAfter (refusalOf y) (refused 5 0) ≡ tooFewWords input
+  after q = ap (λ (x : Option (ℕ × ℕ)). outcomeAfter x (refused 5 0)) (ap refusalOf (sym q) ∙ e)
 
--- The answer if these are all tests
-abbrev after-tests : (input : List ℕ) → Option (ℕ × ℕ) → Outcome Counts
-after-tests input t = outcomeAfter t (accepted (countsOf input))
+  pub five : r ≡ Never → refused 5 0 ≡ tooFewWords input
+  five q = after q
 
-nothing-lent : (input : List ℕ) → Low (answerOf input noLoan)
-unfolding answerOf layoutRefusal nameRefusal
-nothing-lent input = by-layout (layoutOf input) refl
-  where
-    by-name : layoutOf input ≡ Good → (r : Repeated) → repeatedName input ≡ r → Low (after-tests input (orNext (nameRefusal r) (past-names input (ltb 0 (length input)))))
-    by-name good Nowhere once = subst (λ (b : Bool). Low (after-tests input (past-names input b))) (sym (good-long input good once)) (omega arith)
-    by-name good (At p) once = omega arith
-
-    by-layout : (l : Layout) → layoutOf input ≡ l → Low (after-tests input (orNext (layoutRefusal l) (orNext (nameRefusal (repeatedName input)) (past-names input (ltb 0 (length input))))))
-    by-layout Good e = by-name e (repeatedName input) refl
-    by-layout TooLong e = omega arith
-    by-layout (Fault p) e = omega arith
-    by-layout (TooDeep p) e = omega arith
+  pub earlier : {number place : ℕ} → r ≡ Because number place → refused number place ≡ tooFewWords input
+  earlier q = after q
 
 -- ---- the words
-empty : (l : List ℕ) → length l ≡ 0 → l ≡ []
-empty [] e = refl
-empty (x ∷ l) e = absurd (omega (arith, e))
-
-pub words-short : {input output rows words work output′ rows′ part work′ : List ℕ} {answer : Outcome Counts} (records : ℕ) → length words / 7 < records
-    → Checked input (buffers (take 0 output) (take 0 rows) (take 0 words) (take 0 work)) (buffers output′ rows′ part work′) answer
-    → CheckedWords input records (buffers output rows words work) (buffers (output′ ++ drop 0 output) (rows′ ++ drop 0 rows) (part ++ drop 0 words) (work′ ++ drop 0 work)) answer
-words-short {input} {output} {rows} {words} {work} {output′} {rows′} {part} {work′} {answer} records p c =
-    let o : output′ ≡ [] = empty output′ (ap (λ (l : Lengths). l .output) (c .lengths)) in
-    let r : rows′ ≡ [] = empty rows′ (ap (λ (l : Lengths). l .rows) (c .lengths)) in
-    let e : part ≡ [] = empty part (ap (λ (l : Lengths). l .errors) (c .lengths)) in
-    let w : work′ ≡ [] = empty work′ (ap (λ (l : Lengths). l .work) (c .lengths)) in
-    record {
-      short = λ q. (c .answers, λ j. buffers (o j ++ output) (r j ++ rows) (e j ++ words) (w j ++ work));
-      checked = λ q. absurd (omega arith);
-      past = ap (λ (l : List ℕ). drop (errorWidth * records) (l ++ words)) e;
-    }
+pub words-short : {input output rows words work : List ℕ} {answer : Outcome Counts} (records : ℕ) → length words / 7 < records → answer ≡ tooFewWords input
+    → CheckedWords input records (buffers output rows words work) (buffers output rows words work) answer
+words-short records p e = record { short = λ q. (e, refl); checked = λ q. absurd (omega arith); past = refl }
 
 pub words-checked : {input output rows work output′ rows′ part work′ : List ℕ} {answer : Outcome Counts} (words : List ℕ) (records : ℕ) → records ≤ length words / 7
     → Checked input (buffers output rows (take (7 * records) words) work) (buffers output′ rows′ part work′) answer
@@ -145,7 +115,9 @@ module _ (input : List ℕ) (before after : Buffers) (records : List Error) wher
     where
       go : (b : Bool) → leb (errorWidth * lent) (length (before .errors)) ≡ b → errorWidth * lent ≤ length (before .errors)
       go true e = leb-true (errorWidth * lent) (length (before .errors)) e
-      go false e = absurd (other (subst Low (sym (c .short (leb-false (errorWidth * lent) (length (before .errors)) e) .0)) (nothing-lent input)))
+      go false e =
+          let short = c .short (leb-false (errorWidth * lent) (length (before .errors)) e) .0 in
+          absurd (other (subst Low (sym short) (too-few-low (moduleRefusal input) (low-module input))))
 
   no-more : {counts : Counts} → CheckedWords input lent before after (accepted counts) → (errorWidth * lent ≤ length (before .errors)) × (counts .errors ≤ lent)
   no-more {counts} c =

@@ -5,22 +5,23 @@ use mathlib.Core.Bool.{cond}
 use mathlib.Core.List.{List, _++_}
 use lib.Dec.{leb}
 use lib.ListN.{length, take, drop, replicate}
-use Rattle.fallible.specs.Outcome.{Outcome, refused, accepted}
+use Rattle.fallible.specs.Outcome.{Outcome, refused, accepted, outcomeAfter}
 use Rattle.fallible.specs.Errors.{errorWidth, errorsFrom}
 use Rattle.fallible.specs.declared.Error.{Error}
-use Rattle.meaning.specs.Promise.{Counts, Buffers, Lengths, answerOf, Checked}
+use Rattle.meaning.specs.Promise.{Counts, Buffers, Checked}
+use Rattle.type_check.specs.Post.{moduleRefusal}
 
 -- The buffers, with the words of so many records and no more.
 abbrev pub wordsFor : (records : ℕ) → Buffers → Buffers
 wordsFor records b = record { output = b .output; rows = b .rows; errors = take (errorWidth * records) (b .errors); work = b .work }
 
--- Nothing lent: the module is turned back with 1 to 4, or else with 5.
-abbrev pub noLoan : Lengths
-noLoan = record { output = 0; rows = 0; errors = 0; work = 0 }
+-- Too few words: tests 1 to 4, then 5.
+abbrev pub tooFewWords : (input : List ℕ) → Outcome Counts
+tooFewWords input = outcomeAfter (moduleRefusal input) (refused 5 0)
 
--- What is promised of the words, seven for each record lent. Fewer are as good as nothing lent, and then all is as it was.
+-- What is promised of the words, seven for each record lent. Where there are fewer, all is left as it was.
 pub record CheckedWords (input : List ℕ) (records : ℕ) (before after : Buffers) (answer : Outcome Counts) : Type 0 where
-  pub short : length (before .errors) < errorWidth * records → (answer ≡ answerOf input noLoan) × (after ≡ before)
+  pub short : length (before .errors) < errorWidth * records → (answer ≡ tooFewWords input) × (after ≡ before)
   pub checked : errorWidth * records ≤ length (before .errors) → Checked input (wordsFor records before) (wordsFor records after) answer
   pub past : drop (errorWidth * records) (after .errors) ≡ drop (errorWidth * records) (before .errors)
 

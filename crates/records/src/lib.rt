@@ -3,6 +3,8 @@
 use fallible::ERROR_WIDTH;
 use fallible::Error;
 use type_check::Answer;
+use type_check::Refusal;
+use type_check::module_refusal;
 use type_check::type_check_module;
 ghost use mathlib.Core.Path.{_≡_};
 ghost use Prim.Native.Nat.{_+_, _*_, _≤_};
@@ -10,7 +12,7 @@ ghost use lib.ListN.{length};
 ghost use Rattle.contract.specs.Moments.{old, final};
 ghost use Rattle.fallible.specs.Errors.{errorWidth, errorAt};
 ghost use Rattle.type_check.specs.Post.{buffersBefore, buffersAfter, outcomeOf};
-ghost use Rattle.records.specs.Records.{recordsFrom, recordCount, CheckedWords, CheckedRecords};
+ghost use Rattle.records.specs.Records.{recordsFrom, recordCount, tooFewWords, CheckedWords, CheckedRecords};
 
 // The error at a number, from 0, by its words.
 fn error_at(words: &[u32], number: usize) -> Error
@@ -41,8 +43,21 @@ fn fill_records(records: &mut [Error], words: &[u32], count: usize)
     }
 }
 
-// `type_check_module` with seven words for each of so many records, and no more. Fewer words are as good as nothing
-// lent, which is refused.
+// The answer where fewer words are lent than the records ask for: tests 1 to 4, then 5.
+fn too_few_words(input: &[u8]) -> Answer
+    ensures { λ r. ⌜ outcomeOf r ≡ tooFewWords (old input) ⌝ }
+{
+    let refusal = module_refusal(input);
+    match refusal {
+        Refusal::Never => Answer::Refused {
+            number: 5,
+            place: 0,
+        },
+        Refusal::Because { number, place } => Answer::Refused { number, place },
+    }
+}
+
+// `type_check_module` with seven words for each of so many records, and no more.
 fn check_words(
     input: &[u8],
     output: &mut [u8],
@@ -56,13 +71,7 @@ fn check_words(
         (buffersAfter output rows words work) (outcomeOf r) ⌝ }
 {
     if words.len() / ERROR_WIDTH < records {
-        return type_check_module(
-            input,
-            &mut output[..0],
-            &mut rows[..0],
-            &mut words[..0],
-            &mut work[..0],
-        );
+        return too_few_words(input);
     }
     let room = ERROR_WIDTH * records;
     type_check_module(input, output, rows, &mut words[..room], work)

@@ -15,10 +15,10 @@ use Rattle.node.specs.Names.{chain, namesEnd, itemPlaces, itemBytes}
 use Rattle.node.specs.Layout.{stopAt, layoutOf}
 use Rattle.node.specs.Fine.{FineRecord, FineList}
 use Rattle.node.specs.declared.layout.Layout.the-variants.{Good}
-use Rattle.node.proofs.Open.{opened, split-may, fine-stands, module-parts, names-end, item-chain}
+use Rattle.node.proofs.Open.{opened, split-may, fine-stands, names-inside, few-bytes, items-list, item-chain}
 use Rattle.meaning.proofs.Permutation.{along, invariant}
 use Rattle.reorder.specs.Order.{joined, arranged, Places}
-use Rattle.reorder.proofs.Listing.{names-room, none-left}
+use Rattle.reorder.proofs.Listing.{none-left}
 
 -- Something holds of each number of a list
 unfoldable pub Each : (ℕ → Type 0) → List ℕ → Type 0
@@ -73,9 +73,8 @@ whole-chain s (suc n) at h l = go (eqb at (length s)) refl (whole-chain s n)
         let long = length-append (itemBytes s at) (itemsAt s (chain n s (stopAt s at) (length s))) in
         rw (fine-stands s 63 at (length s) anItem (r .first)) (record { each = (r .first, w .each); fill = omega (arith, w .fill, i .2) })
 
-pub whole-items : (s : List ℕ) → layoutOf s ≡ Good → Whole s (16 + wordAt s 16) (itemPlaces s)
-whole-items s e =
-    subst (Whole s (16 + wordAt s 16)) (sym (item-chain s e)) (whole-chain s (length s) (16 + wordAt s 16) (omega arith) (module-parts s e .items))
+pub whole-items : (s : List ℕ) → layoutOf s ≡ Good → Whole s (namesEnd s) (itemPlaces s)
+whole-items s e = subst (Whole s (namesEnd s)) (sym (item-chain s e)) (whole-chain s (length s) (namesEnd s) (omega arith) (items-list s e))
 
 -- Together they have the same length in any order
 length-permuted : (s : List ℕ) {l r : List ℕ} → List·Permᴰ l r → length (itemsAt s l) ≡ length (itemsAt s r)
@@ -90,10 +89,10 @@ length-permuted s =
       length-append (itemBytes s a) (itemsAt s l),
     ))
 
-pub whole-places : (s places : List ℕ) → Places s places → Whole s (16 + wordAt s 16) places
+pub whole-places : (s places : List ℕ) → Places s places → Whole s (namesEnd s) places
 whole-places s places p =
     let w = whole-items s (p .layout) in
-    record { each = each-permuted (IsItem s) (p .order) (w .each); fill = ap (λ (x : ℕ). 16 + wordAt s 16 + x) (sym (length-permuted s (p .order))) ∙ w .fill }
+    record { each = each-permuted (IsItem s) (p .order) (w .each); fill = ap (λ (x : ℕ). namesEnd s + x) (sym (length-permuted s (p .order))) ∙ w .fill }
 
 items-append : (s l r : List ℕ) → itemsAt s (l ++ r) ≡ itemsAt s l ++ itemsAt s r
 unfolding joined
@@ -107,9 +106,9 @@ arranged-more s l p =
     let a = take (namesEnd s) s in
     ap (λ (x : List ℕ). a ++ x) (items-append s l (p ∷ []) ∙ ap (λ (x : List ℕ). itemsAt s l ++ x) (append-nil (itemBytes s p))) ∙ sym (append-assoc a (itemsAt s l) (itemBytes s p))
 
-arranged-none : (s : List ℕ) → layoutOf s ≡ Good → arranged s [] ≡ take (16 + wordAt s 16) s
+arranged-none : (s : List ℕ) → arranged s [] ≡ take (namesEnd s) s
 unfolding arranged joined
-arranged-none s e = append-nil (take (namesEnd s) s) ∙ ap (λ (n : ℕ). take n s) (names-end s e)
+arranged-none s = append-nil (take (namesEnd s) s)
 
 pasted : (d a b : List ℕ) (to : ℕ) → length a ≡ to → to + length b ≤ length d → paste (a ++ drop to d) to b (length b) ≡ a ++ b ++ drop (to + length b) d
 pasted d a b to e h =
@@ -117,19 +116,16 @@ pasted d a b to e h =
     ap (λ (n : ℕ). drop (n + length b) (a ++ drop to d)) (sym e) ∙ drop-append-add a (drop to d) (length b) ∙ drop-drop (length b) to d in
     λ i. take-at a (drop to d) to e i ++ take-length b i ++ rest i
 
--- What is read and copied before the items
-module _ (s places : List ℕ) (p : Places s places) where
-  pub arrange-fits : 16 + 4 ≤ length s
-  arrange-fits = names-room s (p .layout) .0
+-- What is copied before the items
+module _ (s : List ℕ) (from : ℕ) (q : from ≡ namesEnd s) where
+  pub head-inside : from ≤ length s
+  head-inside = omega (arith, names-inside s)
 
-  pub head-inside : (w : ℕ) → w ≡ wordAt s 16 → 16 + w ≤ length s
-  head-inside w q = omega (arith, names-room s (p .layout) .2)
+  pub head-count : from ≡ length (take from s)
+  head-count = sym (length-take-le from s head-inside)
 
-  pub head-count : (w : ℕ) → w ≡ wordAt s 16 → 16 + w ≡ length (take (16 + w) s)
-  head-count w q = sym (length-take-le (16 + w) s (head-inside w q))
-
-  pub head-room : (before : List ℕ) (w : ℕ) → w ≡ wordAt s 16 → length s ≤ length before → 0 + length (take (16 + w) s) ≤ length before
-  head-room before w q h = omega (arith, length-take (16 + w) s)
+  pub head-room : (before : List ℕ) → length s ≤ length before → 0 + length (take from s) ≤ length before
+  head-room before h = omega (arith, length-take from s)
 
 -- The first `i` items are written, and the rest fills the module
 pub record Arranging (s places before after : List ℕ) (to i : ℕ) : Type 0 where
@@ -154,7 +150,7 @@ module _ (s places before : List ℕ) where
     arranging-stops w h q = let r = item-room s (getD places i 0) (arranging-item h) in omega (arith, r .1)
 
     pub arranging-small : (w : ℕ) → i < length places → w ≡ wordAt s (getD places i 0) → getD places i 0 + w < 2 ^ 64
-    arranging-small w h q = omega (arith, arranging-stops w h q, names-room s (g .layout) .3)
+    arranging-small w h q = omega (arith, arranging-stops w h q, few-bytes s (g .layout))
 
     next-fits : i < length places → (to + wordAt s (getD places i 0) ≤ length s)
         × (to + wordAt s (getD places i 0) + length (itemsAt s (drop (i + 1) places)) ≡ length s)
@@ -220,33 +216,28 @@ module _ (s places before : List ℕ) where
         g .are ∙ (λ j. arranged s (take-all i places h j) ++ drop (stop j) before)
 
 -- What stands before the items is written
-module _ (s places before start : List ℕ) (w : ℕ) (p : Places s places) (room : length s ≤ length before) (q : w ≡ wordAt s 16)
-    (e : start ≡ paste before 0 (take (16 + w) s) (length (take (16 + w) s))) where
-  none-yet : arranged s [] ≡ take (16 + w) s
-  none-yet =
-      let k : 16 + w ≡ 16 + wordAt s 16 = omega arith in
-      arranged-none s (p .layout) ∙ ap (λ (x : ℕ). take x s) (sym k)
+module _ (s places before start : List ℕ) (from : ℕ) (p : Places s places) (room : length s ≤ length before) (q : from ≡ namesEnd s)
+    (e : start ≡ paste before 0 (take from s) (length (take from s))) where
+  none-yet : arranged s [] ≡ take from s
+  none-yet = arranged-none s ∙ ap (λ (x : ℕ). take x s) (sym q)
 
-  head-long : length (arranged s []) ≡ 16 + w
-  head-long = ap length none-yet ∙ length-take-le (16 + w) s (omega (arith, names-room s (p .layout) .2))
+  head-long : length (arranged s []) ≡ from
+  head-long = ap length none-yet ∙ sym (head-count s from q)
 
-  begun : start ≡ arranged s [] ++ drop (16 + w) before
+  begun : start ≡ arranged s [] ++ drop from before
   begun =
-      let n = names-room s (p .layout) in
-      let from : 0 + length (take (16 + w) s) ≡ 16 + w = omega (arith, ap length none-yet, head-long) in
-      e ∙ pasted before [] (take (16 + w) s) 0 refl (omega (arith, n .2)) ∙ (λ i. sym none-yet i ++ drop (from i) before)
+      let to : 0 + length (take from s) ≡ from = omega (arith, ap length none-yet, head-long) in
+      e ∙ pasted before [] (take from s) 0 refl (omega (arith, head-inside s from q)) ∙ (λ i. sym none-yet i ++ drop (to i) before)
 
-  begun-past : (k : ℕ) → drop (16 + w + k) start ≡ drop (16 + w + k) before
-  begun-past k =
-      (λ i. drop (sym head-long i + k) (begun i)) ∙ drop-append-add (arranged s []) (drop (16 + w) before) k ∙ drop-drop k (16 + w) before
+  begun-past : (k : ℕ) → drop (from + k) start ≡ drop (from + k) before
+  begun-past k = (λ i. drop (sym head-long i + k) (begun i)) ∙ drop-append-add (arranged s []) (drop from before) k ∙ drop-drop k from before
 
-  pub arranging-start : Arranging s places start start (16 + w) 0
+  pub arranging-start : Arranging s places start start from 0
   arranging-start =
       let whole = whole-places s places p in
-      let n = names-room s (p .layout) in
-      let past : drop (16 + w) start ≡ drop (16 + w) before = ap (λ (x : List ℕ). drop (16 + w) x) begun ∙ drop-at (arranged s []) (drop (16 + w) before) (16 + w) head-long in
+      let past : drop from start ≡ drop from before = ap (λ (x : List ℕ). drop from x) begun ∙ drop-at (arranged s []) (drop from before) from head-long in
       let long : length start ≡ length before =
-      ap length begun ∙ length-append (arranged s []) (drop (16 + w) before) ∙ omega (arith, head-long, length-drop (16 + w) before, n .2) in
+      ap length begun ∙ length-append (arranged s []) (drop from before) ∙ omega (arith, head-long, length-drop from before, head-inside s from q) in
       record {
         layout = p .layout;
         each = whole .each;
@@ -260,7 +251,6 @@ module _ (s places before start : List ℕ) (w : ℕ) (p : Places s places) (roo
 
   pub arranging-end : (after : List ℕ) (to i : ℕ) → Arranging s places start after to i → length places ≤ i → after ≡ arranged s places ++ drop (length s) before
   arranging-end after to i g h =
-      let n = names-room s (p .layout) in
-      let k : 16 + w + (length s - (16 + w)) ≡ length s = omega (arith, n .2) in
-      let past : drop (length s) start ≡ drop (length s) before = subst (λ (x : ℕ). drop x start ≡ drop x before) k (begun-past (length s - (16 + w))) in
+      let k : from + (length s - from) ≡ length s = omega (arith, head-inside s from q) in
+      let past : drop (length s) start ≡ drop (length s) before = subst (λ (x : ℕ). drop x start ≡ drop x before) k (begun-past (length s - from)) in
       arranging-done s places start after to i g h ∙ ap (λ (x : List ℕ). arranged s places ++ x) past

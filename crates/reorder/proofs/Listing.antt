@@ -7,14 +7,14 @@ use native.Mathlib.Omega.{arith}
 use lib.ListN.{length, take, set, length-set}
 use lib.Seq.{take-suc-set, append-snoc}
 use borrow.Author.Tests.{lt-leb}
-use Rattle.shape.specs.Shape.{aNames, anItem, dueIn}
+use Rattle.shape.specs.Shape.{anItem, dueIn}
 use Rattle.shape.specs.declared.Holds.the-variants.{Items}
 use Rattle.node.specs.Bytes.{wordAt}
-use Rattle.node.specs.Names.{stands, chain, itemPlaces}
+use Rattle.node.specs.Names.{stands, chain, namesEnd, itemPlaces}
 use Rattle.node.specs.Layout.{layoutOf, maxBytes}
 use Rattle.node.specs.Fine.{FineList}
 use Rattle.node.specs.declared.layout.Layout.the-variants.{Good}
-use Rattle.node.proofs.Open.{opened, split-may, fine-stands, module-parts, item-chain}
+use Rattle.node.proofs.Open.{opened, split-may, fine-stands, few-bytes, items-list, item-chain}
 use Rattle.node.proofs.NameLaws.{chain-none, chain-more}
 use Rattle.reorder.specs.Order.{maxItems, PlacesListed}
 
@@ -24,21 +24,9 @@ pub record Listing (s words : List ℕ) (at count : ℕ) : Type 0 where
   pub fuel : ℕ
   pub enough : length s - at ≤ fuel
   pub are : itemPlaces s ≡ take count words ++ chain fuel s at (length s)
-  pub low : 32 + 16 * count ≤ at
+  pub low : 16 * count ≤ at
   pub few : length s ≤ maxBytes
   pub inside : count ≤ length words
-
--- The record of the names, of a module with no fault
-pub names-room : (s : List ℕ) → layoutOf s ≡ Good → (16 + 4 ≤ length s) × (32 ≤ 16 + wordAt s 16) × (16 + wordAt s 16 ≤ length s) × (length s ≤ maxBytes)
-names-room s e =
-    let o = opened s 63 16 (length s) aNames (module-parts s e .names) in
-    let h = o .head in
-    let b = o .body in
-    let r = o .room in
-    (omega arith, omega arith, r, o .few)
-
-pub names-fit : (s : List ℕ) → layoutOf s ≡ Good → 16 + 4 ≤ length s
-names-fit s e = names-room s e .0
 
 add-one : (n : ℕ) → suc n ≡ n + 1
 add-one n = omega arith
@@ -48,17 +36,15 @@ unfolding stands
 none-left s at end p = rw (lt-leb (at + 16) end (omega arith))
 
 module _ (s : List ℕ) where
-  pub listing-start : (words : List ℕ) (w : ℕ) → layoutOf s ≡ Good → w ≡ wordAt s 16 → Listing s words (16 + w) 0
-  listing-start words w e q =
-      let m = module-parts s e in
-      let n = names-room s e in
+  pub listing-start : (words : List ℕ) (at : ℕ) → layoutOf s ≡ Good → at ≡ namesEnd s → Listing s words at 0
+  listing-start words at e q =
       record {
-        list = subst (λ (x : ℕ). FineList s 63 (16 + x) (length s) Items) (sym q) (m .items);
+        list = subst (λ (x : ℕ). FineList s 63 x (length s) Items) (sym q) (items-list s e);
         fuel = length s;
         enough = omega arith;
-        are = item-chain s e ∙ ap (λ (x : ℕ). chain (length s) s (16 + x) (length s)) (sym q);
-        low = omega (arith, n .1);
-        few = m .few;
+        are = item-chain s e ∙ ap (λ (x : ℕ). chain (length s) s x (length s)) (sym q);
+        low = omega arith;
+        few = few-bytes s e;
         inside = omega arith;
       }
 

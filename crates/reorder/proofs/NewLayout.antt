@@ -3,6 +3,7 @@ use Prim.Native.Nat.{ℕ, zero, suc, _+_, _-_, _*_, _≤_, _<_}
 use mathlib.Core.Path.{_≡_, refl, sym, _∙_, ap, subst}
 use mathlib.Core.Bool.{Bool, true, false}
 use mathlib.Core.List.{List, [], _∷_, _++_, append-nil, append-assoc}
+use mathlib.Core.Logic.{_⊎_, inl, inr}
 use native.Mathlib.Omega.{arith}
 use lib.Dec.{eqb, ltb}
 use lib.ListN.{length, take, length-append, length-map}
@@ -12,16 +13,16 @@ use Rattle.shape.specs.declared.Holds.{Holds}
 use Rattle.shape.specs.declared.Holds.the-variants.{Nothing, OneModule, NamesThenItems, Items}
 use Rattle.shape.proofs.ShapeLaws.{module-kind}
 use Rattle.node.specs.Bytes.{wordAt}
-use Rattle.node.specs.Names.{namePlaces, nameBytes, namesOf, nameCount, itemBytes}
+use Rattle.node.specs.Names.{namesEnd, namePlaces, nameBytes, namesOf, nameCount, itemBytes}
 use Rattle.node.specs.Layout.{maxBytes, maxDepth, kindAt, classAt, stopAt, answerIf, afterHead, listAt, recordAt, layoutOf}
 use Rattle.node.specs.declared.layout.Layout.the-variants.{Good, TooLong}
 use Rattle.node.proofs.LayoutLaws.{list-step, record-step}
-use Rattle.node.proofs.Open.{headed, opened, split-must, module-list, module-parts}
+use Rattle.node.proofs.Open.{headed, opened, split-must}
+use Rattle.node.proofs.Open.{ModuleRecord, empty-or-record, module-list, module-parts, names-room, names-inside, few-bytes}
 use Rattle.reorder.specs.Order.{joined, arranged, Places}
-use Rattle.reorder.proofs.Listing.{names-room}
 use Rattle.reorder.proofs.Arranging.{Each, IsItem, itemsAt, item-room, whole-places}
 use Rattle.reorder.proofs.Moved.{step-done, step-good, head-moved, record-moved}
-use Rattle.reorder.proofs.NewOrder.{seam-same, seam-word, seam-length, seam-after, module′, arranged-is, head-length, new-length, new-same, new-word, new-names}
+use Rattle.reorder.proofs.NewOrder.{seam-same, seam-word, seam-length, seam-after, module′, arranged-is, start-length, new-length, new-same, new-word, new-names, still-empty}
 
 either-way : (b : Bool) (st : Holds) → pick b st st ≡ st
 either-way true st = refl
@@ -58,7 +59,7 @@ items-good s (p ∷ ps) pre (suc k) e h long =
     (e .0 .ok) (omega arith) (omega arith) (ap (mayStand (dueIn Items)) class))
     ((λ j. listAt (recordAt n m 63) m k (stop j) (length m) (either-way (eqb (classAt m (length pre)) anItem) Items j)) ∙ later)
 
-module _ (s places : List ℕ) (p : Places s places) where
+module _ (s places : List ℕ) (p : Places s places) (whole : ModuleRecord s) where
   -- the new module, where its items start, how many names both have
   abbrev m : List ℕ
   m = module′ s places p
@@ -67,43 +68,43 @@ module _ (s places : List ℕ) (p : Places s places) where
   n = nameCount s
 
   abbrev head : ℕ
-  head = 16 + wordAt s 16
+  head = namesEnd s
 
   long : length m ≡ length s
   long = new-length s places p
 
-  start : (32 ≤ head) × (head ≤ length s) × (length s ≤ maxBytes)
-  start = let r = names-room s (p .layout) in (r .1, r .2, r .3)
+  low : 32 ≤ head
+  low = let r = names-room s whole in omega (arith, r .low, r .end)
 
   names-good : recordAt n m 63 16 (length m) (mustBe aNames Items) ≡ Good
   unfolding mayStand
   names-good =
-      let f = module-parts s (p .layout) .names in
+      let f = module-parts s whole .names in
       let class : classAt s 16 ≡ aNames = opened s 63 16 (length s) aNames f .belongs in
       record-moved n m s 0 0 head (new-same s places p) long 63 16 16 16 (length m) (length s) (mustBe aNames Nothing) (mustBe aNames Items) (omega arith) (omega arith)
-      (f .ok) (omega arith) (omega (arith, start .1, long)) (ap (mayStand (mustBe aNames Items)) class)
+      (f .ok) (omega (arith, names-room s whole .end)) (omega (arith, names-room s whole .inside, long)) (ap (mayStand (mustBe aNames Items)) class)
 
   children-good : listAt (recordAt n m 63) m (suc (length m)) 16 (length m) NamesThenItems ≡ Good
   unfolding listAt dueIn isDone stateAfter
   children-good =
       let w = whole-places s places p in
-      let word = new-word s places p 16 (omega (arith, start .0)) in
-      let from : stopAt m 16 ≡ length (take head s) = omega (arith, head-length s places p) in
-      let items = items-good s places (take head s) (length m) (w .each) (omega (arith, start .0, long, w .fill)) long in
+      let word = new-word s places p 16 (omega (arith, low)) in
+      let from : stopAt m 16 ≡ length (take head s) = omega (arith, start-length s places p, names-room s whole .end) in
+      let items = items-good s places (take head s) (length m) (w .each) (omega (arith, low, long, w .fill)) long in
       step-good (recordAt n m 63) (λ a z. listAt (recordAt n m 63) m (length m) a (length m) z) m 16 (length m) (mustBe aNames Items) refl refl names-good
       ((λ j. listAt (recordAt n m 63) m (length m) (from j) (length m) (either-way (eqb (classAt m 16) aNames) Items j)) ∙ items)
 
   module-good : recordAt n m maxDepth 0 (length m) (mustBe aModule Nothing) ≡ Good
   unfolding shapeOf dueIn mayStand
   module-good =
-      let f = split-must s maxDepth 0 (length s) OneModule aModule Nothing refl (module-list s (p .layout)) .first in
+      let f = split-must s maxDepth 0 (length s) OneModule aModule Nothing refl (module-list s whole) .first in
       let o = opened s maxDepth 0 (length s) aModule f in
       let k = module-kind (kindAt s 0) (o .belongs) in
       let h = headed n s maxDepth 0 (length s) (mustBe aModule Nothing) (f .ok) in
-      let whole = module-parts s (p .layout) .whole in
+      let all = module-parts s whole .whole in
       let none : shapeOf (kindAt s 0) .fields ≡ 0 = ap (λ (x : ℕ). shapeOf x .fields) k in
       let moved = head-moved n m s 0 0 head (new-same s places p) 0 0 0 (omega arith) (omega arith) (length m) (length s) (mustBe aModule Nothing) (mustBe aModule Nothing)
-      (h .start) (h .stop) (h .holds) (h .next) (h .head) (omega (arith, start .0)) (omega (arith, long)) (ap (mayStand (mustBe aModule Nothing)) (o .belongs)) in
+      (h .start) (h .stop) (h .holds) (h .next) (h .head) (omega (arith, low)) (omega (arith, long)) (ap (mayStand (mustBe aModule Nothing)) (o .belongs)) in
       let from : 0 + 16 + 4 * shapeOf (kindAt s 0) .fields ≡ 16 = omega arith in
       let to : 0 + wordAt s 0 ≡ length m = omega (arith, long) in
       let holds : shapeOf (kindAt s 0) .holds ≡ NamesThenItems = ap (λ (x : ℕ). shapeOf x .holds) k in
@@ -114,26 +115,34 @@ module _ (s places : List ℕ) (p : Places s places) where
   nothing-good : listAt (recordAt n m maxDepth) m (length m) (length m) (length m) Nothing ≡ Good
   unfolding dueIn isDone
   nothing-good =
-      list-step (recordAt n m maxDepth) m (length m) (length m) (length m) Nothing (omega (arith, start .0, start .1, long))
+      list-step (recordAt n m maxDepth) m (length m) (length m) (length m) Nothing (omega (arith, low, names-inside s, long))
       ∙ step-done (recordAt n m maxDepth) (λ a z. listAt (recordAt n m maxDepth) m (length m - 1) a (length m) z) m (length m) (length m) (dueIn Nothing)
       (eq-eqb (length m) (length m) refl)
 
   whole-good : listAt (recordAt n m maxDepth) m (suc (length m)) 0 (length m) OneModule ≡ Good
   unfolding listAt dueIn isDone stateAfter
   whole-good =
-      let word = new-word s places p 0 (omega (arith, start .0)) in
-      let stop : stopAt m 0 ≡ length m = omega (arith, long, module-parts s (p .layout) .whole) in
+      let word = new-word s places p 0 (omega (arith, low)) in
+      let stop : stopAt m 0 ≡ length m = omega (arith, long, module-parts s whole .whole) in
       step-good (recordAt n m maxDepth) (λ a z. listAt (recordAt n m maxDepth) m (length m) a (length m) z) m 0 (length m) (mustBe aModule Nothing) refl refl module-good
       ((λ j. listAt (recordAt n m maxDepth) m (length m) (stop j) (length m) (either-way (eqb (classAt m 0) aModule) Nothing j)) ∙ nothing-good)
 
   same-count : nameCount m ≡ nameCount s
   unfolding nameCount namesOf
-  same-count = sym (length-map (namePlaces m) (nameBytes m)) ∙ ap length (new-names s places p) ∙ length-map (namePlaces s) (nameBytes s)
+  same-count = sym (length-map (namePlaces m) (nameBytes m)) ∙ ap length (new-names s places p whole) ∙ length-map (namePlaces s) (nameBytes s)
 
-  pub new-layout : layoutOf (arranged s places) ≡ Good
+  record-good : layoutOf m ≡ Good
   unfolding layoutOf
-  new-layout =
-      let few : ltb maxBytes (length m) ≡ false = le-ltb maxBytes (length m) (omega (arith, long, start .2)) in
-      ap layoutOf (arranged-is s places p)
-      ∙ ap (λ (b : Bool). answerIf b TooLong (λ _. listAt (recordAt (nameCount m) m maxDepth) m (suc (length m)) 0 (length m) OneModule)) few
+  record-good =
+      let some : eqb (length m) 0 ≡ false = ne-eqb (length m) 0 (λ (z : length m ≡ 0). omega (arith, long, whole .some)) in
+      let few : ltb maxBytes (length m) ≡ false = le-ltb maxBytes (length m) (omega (arith, long, few-bytes s (p .layout))) in
+      (λ j. answerIf (some j) Good (λ _. answerIf (few j) TooLong (λ _. listAt (recordAt (nameCount m) m maxDepth) m (suc (length m)) 0 (length m) OneModule)))
       ∙ ap (λ (k : ℕ). listAt (recordAt k m maxDepth) m (suc (length m)) 0 (length m) OneModule) same-count ∙ whole-good
+
+-- The file of no bytes too
+pub new-layout : (s places : List ℕ) → Places s places → layoutOf (arranged s places) ≡ Good
+new-layout s places p = go (empty-or-record s (p .layout))
+  where
+    go : (s ≡ []) ⊎ ModuleRecord s → layoutOf (arranged s places) ≡ Good
+    go (inl e) = ap layoutOf (still-empty s places p e) ∙ p .layout
+    go (inr m) = ap layoutOf (arranged-is s places p) ∙ record-good s places p m

@@ -3,8 +3,9 @@ use Prim.Native.Nat.{ℕ, zero, suc, _+_, _-_, _≤_, min}
 use mathlib.Core.Path.{_≡_, refl, sym, _∙_, ap, ap₂, subst}
 use mathlib.Core.Bool.{Bool, true, false, _&&_}
 use mathlib.Core.List.{List, [], _∷_, _++_, map, append-nil, append-assoc, Permᴰ·map}
+use mathlib.Core.Logic.{_⊎_, inl, inr}
 use native.Mathlib.Omega.{arith}
-use lib.Dec.{leb}
+use lib.Dec.{leb, eqb}
 use lib.ListN.{length, getD, take, drop, length-append, List·getD-append}
 use lib.Seq.{getD-take, getD-drop, getD-append-add, take-at, drop-at, length-take-le}
 use borrow.Author.Tests.{le-leb, leb-true}
@@ -12,13 +13,13 @@ use Rattle.shape.specs.Shape.{pick}
 use Rattle.shape.proofs.ShapeLaws.{and-both}
 use Rattle.node.specs.Bytes.{wordAt}
 use Rattle.node.specs.Names.{stands, chain, namesEnd, namePlaces, nameBytes, namesOf, itemPlaces, itemBytes, itemsOf, sameBytes}
-use Rattle.node.proofs.Open.{module-parts, names-end}
+use Rattle.node.proofs.Open.{ModuleRecord, empty-or-record, module-parts, names-room, names-inside}
 use Rattle.node.proofs.NameLaws.{chain-none}
 use Rattle.meaning.specs.JoiningOrder.{timesIn, AnotherOrder}
 use Rattle.meaning.proofs.Permutation.{times-permuted}
 use Rattle.reorder.specs.Order.{joined, arranged, Places}
 use Rattle.reorder.proofs.SameAt.{SameAt, same-word, same-part}
-use Rattle.reorder.proofs.Listing.{names-room, none-left}
+use Rattle.reorder.proofs.Listing.{none-left}
 use Rattle.reorder.proofs.Arranging.{Each, IsItem, itemsAt, item-room, whole-places}
 
 -- The names of two modules that begin alike
@@ -111,6 +112,10 @@ module _ (s pre rest : List ℕ) (p : ℕ) (f : IsItem s p) where
       let e : length pre + wordAt seam (length pre) ≡ length (pre ++ itemBytes s p) = omega (arith, seam-word, seam-after) in
       rw seam-stands (ap (λ (x : ℕ). length pre ∷ chain n seam x (length seam)) e)
 
+no-bytes : (l : List ℕ) → length l ≡ 0 → l ≡ []
+no-bytes [] e = refl
+no-bytes (x ∷ l) e = absurd (omega (arith, e))
+
 -- The items after the first part of a text
 items-after : (s : List ℕ) (ps pre : List ℕ) (n : ℕ) → Each (IsItem s) ps → length (itemsAt s ps) ≤ n
     → map (itemBytes (pre ++ itemsAt s ps)) (chain n (pre ++ itemsAt s ps) (length pre) (length (pre ++ itemsAt s ps))) ≡ map (itemBytes s) ps
@@ -133,64 +138,76 @@ items-after s (p ∷ ps) pre (suc n) e h =
 
 -- The whole module in another order
 module _ (s places : List ℕ) (p : Places s places) where
-  -- where the items start
-  abbrev head : ℕ
-  head = 16 + wordAt s 16
+  -- what stands before the items
+  abbrev pub start : List ℕ
+  start = take (namesEnd s) s
 
   abbrev pub module′ : List ℕ
-  module′ = take head s ++ itemsAt s places
+  module′ = start ++ itemsAt s places
 
   pub arranged-is : arranged s places ≡ module′
   unfolding arranged
-  arranged-is = ap (λ (n : ℕ). take n s ++ itemsAt s places) (names-end s (p .layout))
+  arranged-is = refl
 
-  pub head-length : length (take head s) ≡ head
-  head-length = length-take-le head s (names-room s (p .layout) .2)
+  pub start-length : length start ≡ namesEnd s
+  start-length = length-take-le (namesEnd s) s (names-inside s)
 
   pub new-length : length module′ ≡ length s
-  new-length = length-append (take head s) (itemsAt s places) ∙ omega (arith, head-length, whole-places s places p .fill)
+  new-length = length-append start (itemsAt s places) ∙ omega (arith, start-length, whole-places s places p .fill)
 
-  pub new-same : SameAt module′ 0 s 0 head
+  pub new-same : SameAt module′ 0 s 0 (namesEnd s)
   new-same i h =
       let z : 0 + i ≡ i = omega arith in
-      ap (λ (x : ℕ). getD module′ x 0) z ∙ List·getD-append (take head s) (itemsAt s places) 0 i (omega (arith, head-length)) ∙ getD-take head s i 0 h
+      ap (λ (x : ℕ). getD module′ x 0) z ∙ List·getD-append start (itemsAt s places) 0 i (omega (arith, start-length)) ∙ getD-take (namesEnd s) s i 0 h
       ∙ ap (λ (x : ℕ). getD s x 0) (sym z)
 
-  pub new-word : (at : ℕ) → at + 4 ≤ head → wordAt module′ at ≡ wordAt s at
-  new-word at h = same-word module′ 0 s 0 head new-same at at at (omega arith) (omega arith) h
+  pub new-word : (at : ℕ) → at + 4 ≤ namesEnd s → wordAt module′ at ≡ wordAt s at
+  new-word at h = same-word module′ 0 s 0 (namesEnd s) new-same at at at (omega arith) (omega arith) h
 
-  new-names-end : namesEnd module′ ≡ head
-  unfolding namesEnd
-  new-names-end =
-      let n = names-room s (p .layout) in
-      omega (arith, new-word 16 (omega (arith, n .1)), new-length, n .2)
+  -- Of a module record
+  module _ (m : ModuleRecord s) where
+    new-names-end : namesEnd module′ ≡ namesEnd s
+    unfolding namesEnd
+    new-names-end =
+        let n = names-room s m in
+        let same : wordAt module′ 16 ≡ wordAt s 16 = new-word 16 (omega (arith, n .low, n .end)) in
+        omega (arith, same, new-length)
 
-  new-items-end : min (wordAt module′ 0) (length module′) ≡ length module′
-  new-items-end =
-      let n = names-room s (p .layout) in
-      omega (arith, new-word 0 (omega (arith, n .1)), new-length, module-parts s (p .layout) .whole)
+    new-items-end : min (wordAt module′ 0) (length module′) ≡ length module′
+    new-items-end =
+        let n = names-room s m in
+        omega (arith, new-word 0 (omega (arith, n .low, n .end)), new-length, module-parts s m .whole)
 
-  pub new-names : namesOf module′ ≡ namesOf s
-  unfolding namesOf namePlaces
-  new-names =
-      let n = names-room s (p .layout) in
-      (λ i. map (nameBytes module′) (chain (new-length i) module′ 32 (new-names-end i)))
-      ∙ same-names module′ s head new-same (omega (arith, new-length, n .2)) (n .2) (length s) 32
-      ∙ ap (λ (x : ℕ). map (nameBytes s) (chain (length s) s 32 x)) (sym (names-end s (p .layout)))
+    pub new-names : namesOf module′ ≡ namesOf s
+    unfolding namesOf namePlaces
+    new-names =
+        (λ i. map (nameBytes module′) (chain (new-length i) module′ 32 (new-names-end i)))
+        ∙ same-names module′ s (namesEnd s) new-same (omega (arith, new-length, names-inside s)) (names-inside s) (length s) 32
 
-  new-items : itemsOf module′ ≡ map (itemBytes s) places
-  unfolding itemsOf itemPlaces
-  new-items =
-      let w = whole-places s places p in
-      let from : namesEnd module′ ≡ length (take head s) = new-names-end ∙ sym head-length in
-      (λ i. map (itemBytes module′) (chain (length module′) module′ (from i) (new-items-end i)))
-      ∙ items-after s places (take head s) (length module′) (w .each) (omega (arith, new-length, w .fill))
+    new-items : itemsOf module′ ≡ map (itemBytes s) places
+    unfolding itemsOf itemPlaces
+    new-items =
+        let w = whole-places s places p in
+        let from : namesEnd module′ ≡ length start = new-names-end ∙ sym start-length in
+        (λ i. map (itemBytes module′) (chain (length module′) module′ (from i) (new-items-end i)))
+        ∙ items-after s places start (length module′) (w .each) (omega (arith, new-length, w .fill))
+
+    record-order : AnotherOrder s module′
+    unfolding itemsOf
+    record-order =
+        record {
+          names = sym new-names;
+          items = λ bytes. times-permuted sameBytes bytes (Permᴰ·map (itemBytes s) (p .order)) ∙ ap (timesIn sameBytes bytes) (sym new-items);
+          empty = ap (λ (n : ℕ). eqb n 0) (sym new-length);
+        }
+
+  -- The file of no bytes stays so
+  pub still-empty : s ≡ [] → arranged s places ≡ s
+  still-empty e = no-bytes (arranged s places) (ap length arranged-is ∙ new-length ∙ ap length e) ∙ sym e
 
   pub new-order : AnotherOrder s (arranged s places)
-  unfolding itemsOf
-  new-order =
-      subst (AnotherOrder s) (sym arranged-is)
-      (record {
-        names = sym new-names;
-        items = λ bytes. times-permuted sameBytes bytes (Permᴰ·map (itemBytes s) (p .order)) ∙ ap (timesIn sameBytes bytes) (sym new-items);
-      })
+  new-order = go (empty-or-record s (p .layout))
+    where
+      go : (s ≡ []) ⊎ ModuleRecord s → AnotherOrder s (arranged s places)
+      go (inl e) = subst (AnotherOrder s) (sym (still-empty e)) (record { names = refl; items = λ bytes. refl; empty = refl })
+      go (inr m) = subst (AnotherOrder s) (sym arranged-is) (record-order m)

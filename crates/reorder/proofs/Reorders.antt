@@ -1,19 +1,17 @@
 -- The module in the order of a number is a module in another order, with no fault in its layout. Assumes nothing.
-use Prim.Native.Nat.{ℕ, _≤_}
+use Prim.Native.Nat.{ℕ}
 use mathlib.Core.Path.{_≡_, _∙_, ap}
-use mathlib.Core.List.{List, map}
-use native.Mathlib.Omega.{arith}
+use mathlib.Core.List.{List, [], map}
 use lib.ListN.{length, take}
 use lib.Seq.{length-take-le, take-at}
 use Rattle.node.specs.Names.{namesEnd, itemPlaces, itemBytes}
 use Rattle.node.specs.Layout.{layoutOf}
 use Rattle.node.specs.declared.layout.Layout.the-variants.{Good}
-use Rattle.node.proofs.Open.{names-end}
+use Rattle.node.proofs.Open.{names-inside}
 use Rattle.meaning.specs.JoiningOrder.{AnotherOrder}
 use Rattle.reorder.specs.Order.{joined, arranged, permutedBy, shuffledModule, Places, Reordered}
 use Rattle.reorder.proofs.Exchanges.{permuted-by}
-use Rattle.reorder.proofs.Listing.{names-room}
-use Rattle.reorder.proofs.NewOrder.{arranged-is, new-length, new-order}
+use Rattle.reorder.proofs.NewOrder.{arranged-is, new-length, new-order, still-empty}
 use Rattle.reorder.proofs.NewLayout.{new-layout}
 
 module _ (input : List ℕ) (number : ℕ) (good : layoutOf input ≡ Good) where
@@ -37,9 +35,13 @@ module _ (input : List ℕ) (number : ℕ) (good : layoutOf input ≡ Good) wher
   pub shuffled-names : take (namesEnd input) (shuffledModule input number) ≡ take (namesEnd input) input
   unfolding shuffledModule arranged
   shuffled-names =
-      let inside : namesEnd input ≤ length input = omega (arith, names-end input good, names-room input good .2) in
       take-at (take (namesEnd input) input) (joined (map (itemBytes input) (permutedBy number (itemPlaces input)))) (namesEnd input)
-      (length-take-le (namesEnd input) input inside)
+      (length-take-le (namesEnd input) input (names-inside input))
+
+  -- A file of no bytes stays so
+  pub shuffled-empty : input ≡ [] → shuffledModule input number ≡ input
+  unfolding shuffledModule
+  shuffled-empty e = still-empty input (permutedBy number (itemPlaces input)) places e
 
   -- All of them
   pub shuffled-reorders : Reordered input (shuffledModule input number)

@@ -1,8 +1,8 @@
 // A module with its items in another order, which a number decides.
-use node::bytes::HEAD_END;
 use node::bytes::length_at;
 use node::layout::Layout;
 use node::layout::check_layout;
+use node::layout::items_start;
 ghost use mathlib.Core.Path.{_≡_};
 ghost use mathlib.Core.List.{_++_};
 ghost use Prim.Native.Nat.{_+_, _<_, _≤_};
@@ -34,7 +34,7 @@ fn list_items(s: &[u8], places: &mut [usize]) -> usize
     requires { ⌜ maxItems ≤ length (now places) ⌝ }
     ensures { λ r. ⌜ PlacesListed (old s) (final places) r ⌝ }
 {
-    let mut at = HEAD_END + length_at(s, HEAD_END);
+    let mut at = items_start(s);
     let mut count: usize = 0;
     while at < s.len() {
         places[count] = at;
@@ -93,7 +93,7 @@ fn arrange(s: &[u8], places: &[usize], output: &mut [u8])
     requires { ⌜ length (now s) ≤ length (now output) ⌝ }
     ensures { λ _. ⌜ final output ≡ arranged (old s) (old places) ++ drop (length (old s)) (old output) ⌝ }
 {
-    let mut to = HEAD_END + length_at(s, HEAD_END);
+    let mut to = items_start(s);
     copy_to(&s[..to], output, 0);
     let mut next: usize = 0;
     while next < places.len() {

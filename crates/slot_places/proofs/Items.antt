@@ -12,13 +12,13 @@ use Rattle.shape.specs.Shape.{pick, dueIn, anItem}
 use Rattle.shape.specs.declared.Holds.the-variants.{Items}
 use Rattle.shape.proofs.ShapeLaws.{and-both}
 use Rattle.node.specs.Bytes.{wordAt}
-use Rattle.node.specs.Names.{stands, chain, itemPlaces, itemBytes, itemsOf}
+use Rattle.node.specs.Names.{stands, chain, namesEnd, itemPlaces, itemBytes, itemsOf}
 use Rattle.node.specs.Layout.{stopAt, layoutOf}
 use Rattle.node.specs.Fine.{FineRecord, FineList}
 use Rattle.node.specs.Tree.{Item}
 use Rattle.node.specs.Record.{Records, recordsAt, toItem, itemTree}
 use Rattle.node.specs.declared.layout.Layout.the-variants.{Good}
-use Rattle.node.proofs.Open.{opened, split-may, module-parts, item-chain}
+use Rattle.node.proofs.Open.{opened, split-may, items-list, item-chain}
 use Rattle.node.proofs.Decode.{fine-wide}
 use Rattle.meaning.specs.Context.{TypeMap, ModuleContext, insertAll, each}
 use Rattle.meaning.specs.Module.{isTaken, aliasEntries, declarationErrors, slotType, entryType, declare, declarations, declareAll, emptyContext, moduleContext, errorsIn1, typesIn1, itemErrors, itemSlots, itemTypes, moduleErrors, typesMet, neededTypes}
@@ -62,7 +62,7 @@ chain-fine s d (suc n) at end l = go (stands s at end) refl (chain-fine s d n (s
 
 pub items-fine : (input : List ℕ) → layoutOf input ≡ Good → All (λ p. FineRecord input 63 p (length input) anItem) (itemPlaces input)
 items-fine input e =
-    rw (item-chain input e) (chain-fine input 63 (length input) (16 + wordAt input 16) (length input) (module-parts input e .items))
+    rw (item-chain input e) (chain-fine input 63 (length input) (namesEnd input) (length input) (items-list input e))
 
 -- by number
 pub item-fine : (input : List ℕ) → layoutOf input ≡ Good → (j : ℕ) → j < itemCount input → FineRecord input 63 (itemPlace input j) (length input) anItem

@@ -9,14 +9,13 @@ use lib.Dec.{eqb}
 use borrow.Author.Tests.{eqb-true, eqb-false}
 use Rattle.shape.specs.Shape.{anItem, pick, dueIn}
 use Rattle.shape.specs.declared.Holds.the-variants.{Items}
-use Rattle.node.specs.Bytes.{wordAt}
-use Rattle.node.specs.Names.{stands, chain}
+use Rattle.node.specs.Names.{stands, chain, namesEnd}
 use Rattle.node.specs.Tree.{Item}
 use Rattle.node.specs.Layout.{stopAt, layoutOf}
 use Rattle.node.specs.Record.{toItem, itemTreeAt}
 use Rattle.node.specs.Fine.{FineRecord, FineList}
 use Rattle.node.specs.declared.layout.Layout.the-variants.{Good}
-use Rattle.node.proofs.Open.{split-may, opened, fine-stands, module-parts, item-chain}
+use Rattle.node.proofs.Open.{split-may, opened, fine-stands, items-list, item-chain}
 use Rattle.node.proofs.Decode.{fine-own, records-cons, records-end}
 use Rattle.walk.proofs.Sets.{both}
 use Rattle.slot_places.specs.Absolute.{toItems, itemsAt, treesAt}
@@ -62,7 +61,7 @@ chain-items s d (suc n) at end l few = go (stands s at end) refl (chain-items s 
         items-cons s d at end (m .first) ∙ ap (λ (x : List Item). itemTreeAt s d at ∷ x) (rest (m .rest) (omega (arith, o .room)))
 
 -- and those of a module at the places of its items
-pub module-items : (input : List ℕ) → layoutOf input ≡ Good → itemsAt input 63 (16 + wordAt input 16) (length input) ≡ treesAt input
+pub module-items : (input : List ℕ) → layoutOf input ≡ Good → itemsAt input 63 (namesEnd input) (length input) ≡ treesAt input
 module-items input e =
     let n = length input in
-    chain-items input 63 n (16 + wordAt input 16) n (module-parts input e .items) (omega arith) ∙ ap (map (itemTreeAt input 63)) (sym (item-chain input e))
+    chain-items input 63 n (namesEnd input) n (items-list input e) (omega arith) ∙ ap (map (itemTreeAt input 63)) (sym (item-chain input e))

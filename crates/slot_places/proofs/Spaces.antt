@@ -19,7 +19,7 @@ use Rattle.node.specs.Layout.{kindAt, classAt, startAt, stopAt, layoutOf}
 use Rattle.node.specs.Fine.{FineRecord, FineList}
 use Rattle.node.specs.Record.{Records, noRecords, recordThen, isSlot, hasSlot, fieldCount, holdsFreeBytes, recordHeadAt, bytesAt, recordsAt, slotPlaces, itemSlotPlaces}
 use Rattle.node.specs.declared.layout.Layout.the-variants.{Good}
-use Rattle.node.proofs.Open.{opened, split-may, module-parts, names-end, item-chain}
+use Rattle.node.proofs.Open.{opened, split-may, items-list, item-chain}
 use Rattle.meaning.specs.Context.{each}
 use Rattle.meaning.specs.Promise.{inSlot, itemPlace, itemAt, itemCount}
 use Rattle.slot_places.specs.Absolute.{All}
@@ -158,7 +158,7 @@ module _ (s : List ℕ) (d : ℕ) where
 -- The slots of a module's items follow each other between its names and its end
 pub module-spaced : (input : List ℕ) → layoutOf input ≡ Good → Spaced (namesEnd input) (length input) (each (slotsAt input) (itemPlaces input))
 module-spaced input e =
-    rw (item-chain input e, names-end input e) (chain-spaced input 63 (length input) (16 + wordAt input 16) (length input) (module-parts input e .items))
+    rw (item-chain input e) (chain-spaced input 63 (length input) (namesEnd input) (length input) (items-list input e))
 
 -- A byte of an item lies in no slot of another item
 all-append : (P : ℕ → Type 0) (a b : List ℕ) → All P a → All P b → All P (a ++ b)
@@ -228,4 +228,4 @@ module-beside input e j i h l n =
     let own : All (Beside (p + i)) (slotsAt input p) =
     subst (All (Beside (p + i))) (sym (own-places input p (item-fine input e j h))) (own-beside p i (itemSlotPlaces (itemAt input j)) n) in
     subst (Clear input 63 j (p + i)) (sym (item-chain input e))
-    (chain-beside input 63 (length input) (16 + wordAt input 16) (length input) (module-parts input e .items) j (p + i)) h (omega arith) (omega (arith, long .0)) own
+    (chain-beside input 63 (length input) (namesEnd input) (length input) (items-list input e) j (p + i)) h (omega arith) (omega (arith, long .0)) own

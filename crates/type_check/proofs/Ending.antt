@@ -12,15 +12,13 @@ use Rattle.types.specs.Ty.{same, member, distinctCount}
 use Rattle.types.specs.Table.{rowWidth, Table}
 use Rattle.types.specs.Post.{FixedStored}
 use Rattle.fallible.specs.Errors.{errorWidth, errorList, room}
-use Rattle.shape.specs.Shape.{aNames}
 use Rattle.shape.specs.declared.Holds.the-variants.{Items}
-use Rattle.node.specs.Bytes.{wordAt}
-use Rattle.node.specs.Names.{nameCount, builtIns}
+use Rattle.node.specs.Names.{nameCount, namesEnd, builtIns}
 use Rattle.node.specs.Layout.{maxBytes}
 use Rattle.node.specs.Tree.{Item}
 use Rattle.node.specs.Fine.{FineList}
 use Rattle.node.specs.declared.names.BuiltIns.{BuiltIns}
-use Rattle.node.proofs.Open.{module-parts, opened}
+use Rattle.node.proofs.Open.{few-bytes, items-list}
 use Rattle.meaning.specs.Context.{each}
 use Rattle.meaning.specs.Module.{neededTypes}
 use Rattle.meaning.specs.Promise.{workWidth, contextOf, errorsOf, typesOf, countsOf}
@@ -50,15 +48,15 @@ past-same n a b l f =
 nothing-then : (e : Effect) → nothing then e ≡ e
 nothing-then e = let n : 0 + e .steps ≡ e .steps = omega arith in λ i. record { stores = e .stores; errors = e .errors; met = e .met; steps = n i }
 
-module _ {input output rows rows₇ index errors work output′ rows′ index′ errors′ work′ : List ℕ} {B : Lent} {r : State} {len : ℕ} {names : BuiltIns}
-    (at : len ≡ wordAt input 16) (numbers : names ≡ builtIns input) (passed : Passed input (length output) (length work)) (copied : output ≡ input ++ drop (length input) output)
+module _ {input output rows rows₇ index errors work output′ rows′ index′ errors′ work′ : List ℕ} {B : Lent} {r : State} {from : ℕ} {names : BuiltIns}
+    (at : from ≡ namesEnd input) (numbers : names ≡ builtIns input) (passed : Passed input (length output) (length work)) (copied : output ≡ input ++ drop (length input) output)
     (empty : work ≡ replicate (workWidth * nameCount input) 0) (fixed : FixedStored rows rows₇)
     (sameErrors : length errors′ ≡ length errors)
-    (declared : AllDeclared input names (itemsAt input 63 (16 + len) (length input)) (16 + len) (length input)
+    (declared : AllDeclared input names (itemsAt input 63 from (length input)) from (length input)
     (lent work output errors rows₇ index (record { errors = 0; rows = 7; full = false })) B)
-    (checked : ItemsChecked input names (itemsAt input 63 (16 + len) (length input)) (16 + len) (length input) B (lent work′ output′ errors′ rows′ index′ r)) where
+    (checked : ItemsChecked input names (itemsAt input 63 from (length input)) from (length input) B (lent work′ output′ errors′ rows′ index′ r)) where
   few : length input ≤ maxBytes
-  few = module-parts input (passed .layout) .few
+  few = few-bytes input (passed .layout)
 
   zero-words : (i : ℕ) → getD work i 0 ≡ 0
   zero-words i = ap (λ (l : List ℕ). getD l i 0) empty ∙ zeros (workWidth * nameCount input) i
@@ -67,10 +65,10 @@ module _ {input output rows rows₇ index errors work output′ rows′ index′
   stands : Represents output errors (lent work′ output′ errors′ rows′ index′ r) (moduleEffect input)
   stands =
       let start = empty-words input work output errors rows₇ (record { errors = 0; rows = 7; full = false }) zero-words (passed .names) in
-      let place : (A : Lent) → AllDeclared input (names) (itemsAt input 63 (16 + len) (length input)) (16 + len) (length input) A B → AllDeclared input (builtIns input) (itemsAt input 63 (16 + wordAt input 16) (length input)) (16 + wordAt input 16) (length input) A B =
-      (λ A d. subst (λ (k : ℕ). AllDeclared input (builtIns input) (itemsAt input 63 (16 + k) (length input)) (16 + k) (length input) A B) at (subst (λ (n : BuiltIns). AllDeclared input n (itemsAt input 63 (16 + len) (length input)) (16 + len) (length input) A B) numbers d)) in
-      let c = subst (λ (k : ℕ). ItemsChecked input (builtIns input) (itemsAt input 63 (16 + k) (length input)) (16 + k) (length input) B (lent work′ output′ errors′ rows′ index′ r)) at
-      (subst (λ (n : BuiltIns). ItemsChecked input n (itemsAt input 63 (16 + len) (length input)) (16 + len) (length input) B (lent work′ output′ errors′ rows′ index′ r)) numbers checked) in
+      let place : (A : Lent) → AllDeclared input (names) (itemsAt input 63 from (length input)) from (length input) A B → AllDeclared input (builtIns input) (itemsAt input 63 (namesEnd input) (length input)) (namesEnd input) (length input) A B =
+      (λ A d. subst (λ (k : ℕ). AllDeclared input (builtIns input) (itemsAt input 63 k (length input)) k (length input) A B) at (subst (λ (n : BuiltIns). AllDeclared input n (itemsAt input 63 from (length input)) from (length input) A B) numbers d)) in
+      let c = subst (λ (k : ℕ). ItemsChecked input (builtIns input) (itemsAt input 63 k (length input)) k (length input) B (lent work′ output′ errors′ rows′ index′ r)) at
+      (subst (λ (n : BuiltIns). ItemsChecked input n (itemsAt input 63 from (length input)) from (length input) B (lent work′ output′ errors′ rows′ index′ r)) numbers checked) in
       subst (Represents output errors (lent work′ output′ errors′ rows′ index′ r)) (nothing-then (moduleEffect input))
       (both-passes input (passed .layout) start (place _ declared) c .does output errors nothing (begin fixed work output errors))
 
@@ -157,12 +155,8 @@ module _ {input output rows rows₇ index errors work output′ rows′ index′
       }
 
 -- What the calls of both passes ask for
-module _ {input : List ℕ} {outputs works : ℕ} (passed : Passed input outputs works) where
-  pub names-room : 20 ≤ length input
-  names-room = let o = opened input 63 16 (length input) aNames (module-parts input (passed .layout) .names) in omega (arith, o .head, o .body, o .room)
-
-  pub items-list : {len : ℕ} → len ≡ wordAt input 16 → FineList input 63 (16 + len) (length input) Items
-  items-list e = subst (λ (k : ℕ). FineList input 63 (16 + k) (length input) Items) (sym e) (module-parts input (passed .layout) .items)
+pub list-of-items : {input : List ℕ} {outputs works from : ℕ} → Passed input outputs works → from ≡ namesEnd input → FineList input 63 from (length input) Items
+list-of-items {input} passed e = subst (λ (k : ℕ). FineList input 63 k (length input) Items) (sym e) (items-list input (passed .layout))
 
 pub first-ready : {input output rows rows₇ index errors work : List ℕ} → Passed input (length output) (length work) → work ≡ replicate (workWidth * nameCount input) 0 → FixedStored rows rows₇ → Indexed rows₇ 7 index → Ready input (lent work output errors rows₇ index (record { errors = 0; rows = 7; full = false }))
 first-ready {input} {output} {rows} {rows₇} {index} {errors} {work} passed e fixed indexed =

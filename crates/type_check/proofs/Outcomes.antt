@@ -2,29 +2,20 @@
 use Prim.Native.Nat.{ℕ, _+_, _*_, _≤_, _<_}
 use mathlib.Core.Path.{_≡_, sym, _∙_, ap, subst}
 use mathlib.Core.Bool.{Bool, true, false}
-use mathlib.Core.List.{List, [], _∷_, _++_, append-nil}
+use mathlib.Core.List.{List, [], _∷_, _++_}
 use native.Mathlib.Omega.{arith}
 use lib.Dec.{ltb}
-use lib.ListN.{length, drop, replicate, length-append, length-replicate, length-drop}
-use lib.Seq.{drop-length, drop-append-seam}
+use lib.ListN.{length, drop, replicate, length-append, length-drop}
+use lib.Seq.{drop-append-seam}
 use borrow.Author.Tests.{lt-ltb, le-ltb}
 use Rattle.fallible.specs.Outcome.{Outcome, refused, accepted, firstRefusing, outcomeAfter}
 use Rattle.fallible.specs.Errors.{errorWidth, room}
 use Rattle.node.specs.Names.{namesOf, nameCount}
 use Rattle.meaning.specs.Promise.{workWidth, Counts, countsOf, Buffers, lengthsOf, refuseIf, cleared, wiped, Accepted}
+use Rattle.meaning.proofs.Cleared.{cleared-all, cleared-long, cleared-same}
 use Rattle.walk.specs.declared.State.{State}
 use Rattle.type_check.specs.Post.{buffers, Passed, BothPasses, lateOutcome, Ends}
 use Rattle.type_check.proofs.Refusals.{names-counted}
-
--- Lists of which the first are 0
-pub cleared-all : (l : List ℕ) → cleared (length l) l ≡ replicate (length l) 0
-cleared-all l = ap (λ (x : List ℕ). replicate (length l) 0 ++ x) (drop-length l) ∙ append-nil (replicate (length l) 0)
-
-cleared-long : (n : ℕ) (l : List ℕ) → n ≤ length l → length (cleared n l) ≡ length l
-cleared-long n l p = length-append (replicate n 0) (drop n l) ∙ (let a : length (replicate {A = ℕ} n 0) ≡ n = length-replicate n 0 in let b = length-drop n l in omega arith)
-
-cleared-same : (k l : List ℕ) → length k ≡ length l → cleared (length k) k ≡ cleared (length l) l
-cleared-same k l e = cleared-all k ∙ ap (λ (n : ℕ). replicate n 0) e ∙ sym (cleared-all l)
 
 -- An answer is one or the other
 pub refused-number : {n m p q : ℕ} → _≡_ {A = Outcome Counts} (refused n p) (refused m q) → n ≡ m

@@ -11,8 +11,8 @@ use lib.Seq.{length-take-le, length-front}
 use Rattle.types.specs.Table.{rowWidth}
 use Rattle.fallible.specs.Errors.{errorWidth}
 use Rattle.fallible.specs.Outcome.{Outcome, refused, accepted, orNext, firstRefusing, outcomeAfter}
-use Rattle.node.specs.Names.{namesOf, nameCount, repeatedName, nameRefusal}
-use Rattle.node.specs.Layout.{layoutOf, layoutRefusal}
+use Rattle.node.specs.Names.{namesOf, nameCount, repeatedName, nameRefusal, nameTest}
+use Rattle.node.specs.Layout.{layoutOf, layoutRefusal, layoutTests}
 use Rattle.node.specs.declared.layout.Layout.{Layout}
 use Rattle.node.specs.declared.layout.Layout.the-variants.{Good, TooLong, Fault, TooDeep}
 use Rattle.node.specs.declared.names.Repeated.{Repeated}
@@ -20,9 +20,10 @@ use Rattle.node.specs.declared.names.Repeated.the-variants.{Nowhere, At}
 use Rattle.meaning.specs.Promise.{workWidth, Counts, countsOf, Buffers, Lengths, lengthsOf, refuseIf, answerOf, cleared, Accepted, Checked}
 use Rattle.type_check.specs.declared.Refusal.{Refusal}
 use Rattle.type_check.specs.declared.Refusal.the-variants.{Never, Because}
-use Rattle.type_check.specs.Post.{buffers, refusalOf, loanRefusal, laterRefusal, earlyRefusal, lateOutcome, Passed, Ends}
+use Rattle.type_check.specs.Post.{buffers, refusalOf, moduleRefusal, loanRefusal, earlyRefusal, lateOutcome, Passed, Ends}
+use Rattle.meaning.proofs.Cleared.{cleared-all}
 use Rattle.type_check.proofs.Refusals.{names-counted, all-passed}
-use Rattle.type_check.proofs.Outcomes.{cleared-all, refused-number, refused-never}
+use Rattle.type_check.proofs.Outcomes.{refused-number, refused-never}
 
 -- The first of some refusals decides
 next-both : (a b c : Option (ℕ × ℕ)) → orNext a (orNext b c) ≡ orNext (orNext a b) c
@@ -37,15 +38,15 @@ after-both (some r) b o = refl
 answer-by : (input : List ℕ) (lent : Lengths) → answerOf input lent ≡ outcomeAfter (earlyRefusal input (lent .output) (lent .work)) (lateOutcome input lent)
 unfolding answerOf
 answer-by input lent =
-    let a = layoutRefusal (layoutOf input) in
-    let b = nameRefusal (repeatedName input) in
+    let a = layoutTests input in
+    let b = nameTest input in
     let c = loanRefusal input (lent .output) (lent .work) in
     let late = firstRefusing (refuseIf (ltb (lent .rows) (rowWidth * countsOf input .rows)) 6 ∷ refuseIf (ltb (lent .errors) (errorWidth * countsOf input .errors)) 7 ∷ []) in
     let all = accepted (countsOf input) in
-    ap (λ x. outcomeAfter x all) (ap (orNext a) (next-both b c late) ∙ next-both a (orNext b c) late) ∙ after-both (orNext a (orNext b c)) late all
+    ap (λ x. outcomeAfter x all) (next-both a b (orNext c late) ∙ next-both (orNext a b) c late) ∙ after-both (orNext (orNext a b) c) late all
 
 -- Tests 1 to 5 refuse with 1 to 5
-abbrev Low : Option (ℕ × ℕ) → Type 0
+abbrev pub Low : Option (ℕ × ℕ) → Type 0
 Low none = Unit {0}
 Low (some r) = r .0 ≤ 5
 
@@ -69,10 +70,11 @@ unfolding nameRefusal
 low-name Nowhere = tt
 low-name (At p) = omega arith
 
+pub low-module : (input : List ℕ) → Low (moduleRefusal input)
+low-module input = low-next (layoutTests input) (nameTest input) (low-layout (layoutOf input)) (low-name (repeatedName input))
+
 low-early : (input : List ℕ) (o w : ℕ) → Low (earlyRefusal input o w)
-low-early input o w =
-    low-next (layoutRefusal (layoutOf input)) (laterRefusal input o w) (low-layout (layoutOf input))
-    (low-next (nameRefusal (repeatedName input)) (loanRefusal input o w) (low-name (repeatedName input)) (low-if (ltb o (length input) || ltb w (workWidth * length (namesOf input)))))
+low-early input o w = low-next (moduleRefusal input) (loanRefusal input o w) (low-module input) (low-if (ltb o (length input) || ltb w (workWidth * length (namesOf input))))
 
 module _ (input output rows errors work : List ℕ) {r : Refusal} (told : refusalOf r ≡ earlyRefusal input (length output) (length work)) where
   -- Turned back: all is left as it was

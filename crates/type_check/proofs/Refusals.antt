@@ -16,7 +16,9 @@ use Rattle.node.specs.declared.layout.Layout.the-variants.{Good, TooLong, Fault
 use Rattle.node.specs.declared.names.Repeated.{Repeated}
 use Rattle.node.specs.declared.names.Repeated.the-variants.{Nowhere, At}
 use Rattle.meaning.specs.Promise.{workWidth, refuseIf}
-use Rattle.type_check.specs.Post.{loanRefusal, laterRefusal, earlyRefusal, Passed}
+use Rattle.type_check.specs.declared.Refusal.{Refusal}
+use Rattle.type_check.specs.declared.Refusal.the-variants.{Never, Because}
+use Rattle.type_check.specs.Post.{refusalOf, moduleRefusal, loanRefusal, earlyRefusal, Passed}
 
 pub names-counted : (s : List ℕ) → length (namesOf s) ≡ nameCount s
 unfolding namesOf nameCount
@@ -39,39 +41,47 @@ module _ (input : List ℕ) (output work names : ℕ) (n : names ≡ nameCount i
   pub enough : length input ≤ output → workWidth * names ≤ work → none ≡ loanRefusal input output work
   enough l w = loans false false (le-ltb output (length input) l) (le-ltb work (workWidth * names) w)
 
--- Test 4, then 5
-module _ (input : List ℕ) (output work : ℕ) {r : Repeated} (e : nameRefusal r ≡ nameTest input) where
-  by-test : {y : Repeated} → r ≡ y → orNext (nameRefusal y) (loanRefusal input output work) ≡ laterRefusal input output work
-  by-test q = ap (λ (x : Option (ℕ × ℕ)). orNext x (loanRefusal input output work)) (ap nameRefusal (sym q) ∙ e)
-
-  pub name-repeated : {p : ℕ} → r ≡ At p → some (4, p) ≡ laterRefusal input output work
+-- Test 4
+module _ (input : List ℕ) {r : Repeated} (e : nameRefusal r ≡ nameTest input) where
+  pub name-repeated : {p : ℕ} → r ≡ At p → some (4, p) ≡ nameTest input
   unfolding nameRefusal
-  name-repeated q = by-test q
+  name-repeated q = ap nameRefusal (sym q) ∙ e
 
-  pub no-name-repeated : {x : Option (ℕ × ℕ)} → r ≡ Nowhere → x ≡ loanRefusal input output work → x ≡ laterRefusal input output work
+  pub no-name-repeated : r ≡ Nowhere → none ≡ nameTest input
   unfolding nameRefusal
-  no-name-repeated q h = h ∙ by-test q
+  no-name-repeated q = ap nameRefusal (sym q) ∙ e
 
--- Tests 1 to 3, then 4 and 5
-module _ (input : List ℕ) (output work : ℕ) {r : Layout} (e : layoutRefusal r ≡ layoutTests input) where
-  bad : {y : Layout} → r ≡ y → orNext (layoutRefusal y) (laterRefusal input output work) ≡ earlyRefusal input output work
-  bad q = ap (λ (x : Option (ℕ × ℕ)). orNext x (laterRefusal input output work)) (ap layoutRefusal (sym q) ∙ e)
+-- Tests 1 to 3, then 4
+module _ (input : List ℕ) {r : Layout} (e : layoutRefusal r ≡ layoutTests input) where
+  by-layout : {y : Layout} → r ≡ y → orNext (layoutRefusal y) (nameTest input) ≡ moduleRefusal input
+  by-layout q = ap (λ (x : Option (ℕ × ℕ)). orNext x (nameTest input)) (ap layoutRefusal (sym q) ∙ e)
 
-  pub too-long : r ≡ TooLong → some (1, 0) ≡ earlyRefusal input output work
+  pub too-long : r ≡ TooLong → some (1, 0) ≡ moduleRefusal input
   unfolding layoutRefusal
-  too-long q = bad q
+  too-long q = by-layout q
 
-  pub a-fault : {p : ℕ} → r ≡ Fault p → some (2, p) ≡ earlyRefusal input output work
+  pub a-fault : {p : ℕ} → r ≡ Fault p → some (2, p) ≡ moduleRefusal input
   unfolding layoutRefusal
-  a-fault q = bad q
+  a-fault q = by-layout q
 
-  pub too-deep : {p : ℕ} → r ≡ TooDeep p → some (3, p) ≡ earlyRefusal input output work
+  pub too-deep : {p : ℕ} → r ≡ TooDeep p → some (3, p) ≡ moduleRefusal input
   unfolding layoutRefusal
-  too-deep q = bad q
+  too-deep q = by-layout q
 
-  pub good-layout : {x : Option (ℕ × ℕ)} → r ≡ Good → x ≡ laterRefusal input output work → x ≡ earlyRefusal input output work
+  pub good-layout : {x : Option (ℕ × ℕ)} → r ≡ Good → x ≡ nameTest input → x ≡ moduleRefusal input
   unfolding layoutRefusal
-  good-layout q h = h ∙ bad q
+  good-layout q h = h ∙ by-layout q
+
+-- Tests 1 to 4, then 5
+module _ (input : List ℕ) (output work : ℕ) {r : Refusal} (e : refusalOf r ≡ moduleRefusal input) where
+  by-module : {y : Refusal} → r ≡ y → orNext (refusalOf y) (loanRefusal input output work) ≡ earlyRefusal input output work
+  by-module q = ap (λ (x : Option (ℕ × ℕ)). orNext x (loanRefusal input output work)) (ap refusalOf (sym q) ∙ e)
+
+  pub module-refused : {number place : ℕ} → r ≡ Because number place → some (number, place) ≡ earlyRefusal input output work
+  module-refused q = by-module q
+
+  pub module-passed : {x : Option (ℕ × ℕ)} → r ≡ Never → x ≡ loanRefusal input output work → x ≡ earlyRefusal input output work
+  module-passed q h = h ∙ by-module q
 
 -- Where none refuses, all are passed
 pub all-passed : (input : List ℕ) (output work : ℕ) → none ≡ earlyRefusal input output work → Passed input output work
@@ -97,7 +107,7 @@ all-passed input output work e = by-layout (layoutOf input) refl e
     by-name l Nowhere p h = by-loan l p (ltb output (length input)) (ltb work (workWidth * length (namesOf input))) refl refl h
     by-name l (At q) p h = never h
 
-    by-layout : (l : Layout) → layoutOf input ≡ l → none ≡ orNext (layoutRefusal l) (laterRefusal input output work) → Passed input output work
+    by-layout : (l : Layout) → layoutOf input ≡ l → none ≡ orNext (orNext (layoutRefusal l) (nameTest input)) (loanRefusal input output work) → Passed input output work
     by-layout Good p h = by-name p (repeatedName input) refl h
     by-layout TooLong p h = never h
     by-layout (Fault q) p h = never h

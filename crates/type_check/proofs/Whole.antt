@@ -6,8 +6,7 @@ use mathlib.Core.List.{List, [], _∷_, _++_, map, map-append}
 use native.Mathlib.Omega.{arith}
 use lib.ListN.{length}
 use Rattle.shape.specs.Shape.{anItem}
-use Rattle.node.specs.Bytes.{wordAt}
-use Rattle.node.specs.Names.{itemPlaces, builtIns}
+use Rattle.node.specs.Names.{namesEnd, itemPlaces, builtIns}
 use Rattle.node.specs.Layout.{layoutOf}
 use Rattle.node.specs.Fine.{FineRecord}
 use Rattle.node.specs.Tree.{Item}
@@ -32,7 +31,7 @@ use Rattle.items.specs.Post.{Outside, ItemsChecked}
 
 -- The steps of both passes, a bound on the rows asked for
 abbrev pub moduleSteps : List ℕ → ℕ
-moduleSteps input = 2 * (length input - (16 + wordAt input 16))
+moduleSteps input = 2 * (length input - namesEnd input)
 
 -- The effect of a module
 abbrev pub moduleEffect : List ℕ → Effect
@@ -66,7 +65,7 @@ stores-of input m (p ∷ ps) h =
 -- Pass 1, then pass 2 with the context that pass 1 leaves
 module _ (input : List ℕ) (good : layoutOf input ≡ Good) where
   abbrev from : ℕ
-  from = 16 + wordAt input 16
+  from = namesEnd input
 
   abbrev items : List Item
   items = itemsAt input 63 from (length input)

@@ -12,8 +12,8 @@ use Rattle.contract.specs.Moments.{old, final}
 use Rattle.types.specs.Table.{rowWidth}
 use Rattle.fallible.specs.Outcome.{Outcome, refused, accepted, orNext, firstRefusing, outcomeAfter}
 use Rattle.fallible.specs.Errors.{errorWidth, room}
-use Rattle.node.specs.Names.{namesOf, nameCount, repeatedName, nameRefusal}
-use Rattle.node.specs.Layout.{layoutOf, layoutRefusal}
+use Rattle.node.specs.Names.{namesOf, nameCount, repeatedName, nameTest}
+use Rattle.node.specs.Layout.{layoutOf, layoutTests}
 use Rattle.node.specs.declared.layout.Layout.the-variants.{Good}
 use Rattle.node.specs.declared.names.Repeated.the-variants.{Nowhere}
 use Rattle.meaning.specs.Promise.{workWidth, Counts, countsOf, Buffers, Lengths, lengthsOf, refuseIf}
@@ -45,15 +45,17 @@ abbrev pub refusalOf : Refusal → Option (ℕ × ℕ)
 refusalOf Never = none
 refusalOf (Because number place) = some (number, place)
 
--- Tests 1 to 5, which are made before anything is written: the first that refuses decides
+-- Tests 1 to 4, which look at the module alone: the first that refuses decides
+abbrev pub moduleRefusal : (input : List ℕ) → Option (ℕ × ℕ)
+moduleRefusal input = orNext (layoutTests input) (nameTest input)
+
+-- Test 5
 abbrev pub loanRefusal : (input : List ℕ) → (output work : ℕ) → Option (ℕ × ℕ)
 loanRefusal input output work = refuseIf (ltb output (length input) || ltb work (workWidth * length (namesOf input))) 5
 
-abbrev pub laterRefusal : (input : List ℕ) → (output work : ℕ) → Option (ℕ × ℕ)
-laterRefusal input output work = orNext (nameRefusal (repeatedName input)) (loanRefusal input output work)
-
+-- Tests 1 to 5, which are made before anything is written
 abbrev pub earlyRefusal : (input : List ℕ) → (output work : ℕ) → Option (ℕ × ℕ)
-earlyRefusal input output work = orNext (layoutRefusal (layoutOf input)) (laterRefusal input output work)
+earlyRefusal input output work = orNext (moduleRefusal input) (loanRefusal input output work)
 
 -- They are passed, with an output and working words of these lengths
 pub record Passed (input : List ℕ) (output work : ℕ) : Type 0 where

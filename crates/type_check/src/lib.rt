@@ -4,11 +4,10 @@ use declare::declare_items;
 use fallible::ERROR_WIDTH;
 use items::type_check_items;
 use literal::digits::put_digits;
-use node::bytes::HEAD_END;
-use node::bytes::length_at;
 use node::fine::Nodes;
 use node::layout::Layout;
 use node::layout::check_layout;
+use node::layout::items_start;
 use node::names::Repeated;
 use node::names::built_ins;
 use node::names::name_count;
@@ -21,10 +20,10 @@ ghost use Prim.Native.Nat.{_≤_, _*_};
 ghost use mathlib.Core.List.{_++_};
 ghost use lib.ListN.{length, replicate, drop};
 ghost use Rattle.contract.specs.Moments.{old, final};
-ghost use Rattle.node.specs.Names.{nameCount};
+ghost use Rattle.node.specs.Names.{nameCount, nameTest};
 ghost use Rattle.meaning.specs.Promise.{Checked, cleared, workWidth};
-ghost use Rattle.type_check.specs.Post.{buffersBefore, buffersAfter, outcomeOf, refusalOf, earlyRefusal};
-ghost use Rattle.type_check.specs.Post.{loanRefusal, laterRefusal, Passed, BothPasses, Ends};
+ghost use Rattle.type_check.specs.Post.{buffersBefore, buffersAfter, outcomeOf, refusalOf, moduleRefusal};
+ghost use Rattle.type_check.specs.Post.{loanRefusal, earlyRefusal, Passed, BothPasses, Ends};
 
 // The answer: how many rows and errors there are, or why the module is turned back and where.
 pub enum Answer {
@@ -32,14 +31,41 @@ pub enum Answer {
     Refused { number: u32, place: usize },
 }
 
-// The outcome of the tests before the check.
-enum Refusal {
+// Why a module is turned back, if it is.
+pub enum Refusal {
     Never,
     Because { number: u32, place: usize },
 }
 
 // How many levels are left for an item.
 const ITEM_DEPTH: usize = 63;
+
+// Test 4.
+fn name_refusal(input: &[u8]) -> Refusal
+    ensures { λ r. ⌜ refusalOf r ≡ nameTest (old input) ⌝ }
+{
+    let repeated = repeated_name(input);
+    match repeated {
+        Repeated::Nowhere => Refusal::Never,
+        Repeated::At(place) => Refusal::Because { number: 4, place },
+    }
+}
+
+// Tests 1 to 4: why the module is turned back, whatever is lent.
+pub fn module_refusal(input: &[u8]) -> Refusal
+    ensures { λ r. ⌜ refusalOf r ≡ moduleRefusal (old input) ⌝ }
+{
+    let layout = check_layout(input);
+    match layout {
+        Layout::Good => name_refusal(input),
+        Layout::TooLong => Refusal::Because {
+            number: 1,
+            place: 0,
+        },
+        Layout::Fault(place) => Refusal::Because { number: 2, place },
+        Layout::TooDeep(place) => Refusal::Because { number: 3, place },
+    }
+}
 
 // Test 5: the output is shorter than the input, or there are too few working words.
 fn loan_refusal(input: &[u8], output: usize, work: usize) -> Refusal
@@ -61,30 +87,14 @@ fn loan_refusal(input: &[u8], output: usize, work: usize) -> Refusal
     Refusal::Never
 }
 
-// Tests 4 and 5.
-fn name_refusal(input: &[u8], output: usize, work: usize) -> Refusal
-    ensures { λ r. ⌜ refusalOf r ≡ laterRefusal (old input) output work ⌝ }
-{
-    let repeated = repeated_name(input);
-    match repeated {
-        Repeated::Nowhere => loan_refusal(input, output, work),
-        Repeated::At(place) => Refusal::Because { number: 4, place },
-    }
-}
-
 // Tests 1 to 5: why the module is turned back before anything is written.
 fn early_refusal(input: &[u8], output: usize, work: usize) -> Refusal
     ensures { λ r. ⌜ refusalOf r ≡ earlyRefusal (old input) output work ⌝ }
 {
-    let layout = check_layout(input);
-    match layout {
-        Layout::Good => name_refusal(input, output, work),
-        Layout::TooLong => Refusal::Because {
-            number: 1,
-            place: 0,
-        },
-        Layout::Fault(place) => Refusal::Because { number: 2, place },
-        Layout::TooDeep(place) => Refusal::Because { number: 3, place },
+    let refusal = module_refusal(input);
+    match refusal {
+        Refusal::Never => loan_refusal(input, output, work),
+        Refusal::Because { number, place } => Refusal::Because { number, place },
     }
 }
 
@@ -152,7 +162,7 @@ fn both_passes(
     let index = &mut index;
     row_index::link_all(rows, types::FIXED_COUNT, index);
     let names = built_ins(input);
-    let from = HEAD_END + length_at(input, HEAD_END);
+    let from = items_start(input);
     let end = input.len();
     let depth = ITEM_DEPTH;
     let list = Nodes { from, end, depth };

@@ -1,4 +1,4 @@
--- `check_words` meets its contract: with too few words the check gets nothing, and else the words of the records alone. Assumes nothing.
+-- `check_words` meets its contract: the check gets the words of the records alone. Assumes nothing.
 use native.Mathlib.Omega.{arith}
 use lib.Seq.{length-take-le}
 use mathlib.Core.Path.{sym}
@@ -7,29 +7,20 @@ use borrow.Author.Needs.{needs}
 use Rattle.records.proofs.check_words.Statement.{statement}
 use Rattle.records.proofs.check_words.Tie as tie
 
+too-few-words-requires : tie.Need-too-few-words-requires
+too-few-words-requires c κs = search needs
+
+returns : tie.Need-returns
+returns c = search promise.words-short
+
+mul-room : tie.Need-mul-room
+mul-room c = search needs
+
 slice-relend-prefix-type-check-module : tie.Need-slice-relend-prefix-type-check-module
 slice-relend-prefix-type-check-module c = search needs
 
 slice-aggregate-type-check-module : tie.Need-slice-aggregate-type-check-module
-slice-aggregate-type-check-module c = search needs
-
-slice-relend-prefix-type-check-module-2 : tie.Need-slice-relend-prefix-type-check-module-2
-slice-relend-prefix-type-check-module-2 c = search needs
-
-slice-aggregate-type-check-module-2 : tie.Need-slice-aggregate-type-check-module-2
-slice-aggregate-type-check-module-2 c = search needs
-
-slice-relend-prefix-type-check-module-3 : tie.Need-slice-relend-prefix-type-check-module-3
-slice-relend-prefix-type-check-module-3 c = search needs
-
-slice-aggregate-type-check-module-3 : tie.Need-slice-aggregate-type-check-module-3
-slice-aggregate-type-check-module-3 c = search needs
-
-slice-relend-prefix-type-check-module-4 : tie.Need-slice-relend-prefix-type-check-module-4
-slice-relend-prefix-type-check-module-4 c = search needs
-
-slice-aggregate-type-check-module-4 : tie.Need-slice-aggregate-type-check-module-4
-slice-aggregate-type-check-module-4 c = search needs
+slice-aggregate-type-check-module c = sym (length-take-le _ _ (omega arith))
 
 type-check-module-requires : tie.Need-type-check-module-requires
 type-check-module-requires c κs = search needs
@@ -46,33 +37,6 @@ same-length-3 c = search needs
 same-length-4 : tie.Need-same-length-4
 same-length-4 c = search needs
 
-returns : tie.Need-returns
-returns c = search promise.words-short
-
-mul-room : tie.Need-mul-room
-mul-room c = search needs
-
-slice-relend-prefix-type-check-module-5 : tie.Need-slice-relend-prefix-type-check-module-5
-slice-relend-prefix-type-check-module-5 c = search needs
-
-slice-aggregate-type-check-module-5 : tie.Need-slice-aggregate-type-check-module-5
-slice-aggregate-type-check-module-5 c = sym (length-take-le _ _ (omega arith))
-
-type-check-module-requires-2 : tie.Need-type-check-module-requires-2
-type-check-module-requires-2 c κs = search needs
-
-same-length-5 : tie.Need-same-length-5
-same-length-5 c = search needs
-
-same-length-6 : tie.Need-same-length-6
-same-length-6 c = search needs
-
-same-length-7 : tie.Need-same-length-7
-same-length-7 c = search needs
-
-same-length-8 : tie.Need-same-length-8
-same-length-8 c = search needs
-
 returns-2 : tie.Need-returns-2
 returns-2 c = search promise.words-checked
 
@@ -80,26 +44,14 @@ pub check-words-spec : {M : Type 1} → statement M
 check-words-spec =
     tie.close
     (tie.spec
+    too-few-words-requires
+    returns
+    mul-room
     slice-relend-prefix-type-check-module
     slice-aggregate-type-check-module
-    slice-relend-prefix-type-check-module-2
-    slice-aggregate-type-check-module-2
-    slice-relend-prefix-type-check-module-3
-    slice-aggregate-type-check-module-3
-    slice-relend-prefix-type-check-module-4
-    slice-aggregate-type-check-module-4
     type-check-module-requires
     same-length
     same-length-2
     same-length-3
     same-length-4
-    returns
-    mul-room
-    slice-relend-prefix-type-check-module-5
-    slice-aggregate-type-check-module-5
-    type-check-module-requires-2
-    same-length-5
-    same-length-6
-    same-length-7
-    same-length-8
     returns-2)

@@ -4,47 +4,24 @@ use borrow.Author.Needs.{needs}
 use Rattle.type_check.proofs.early_refusal.Statement.{statement}
 use Rattle.type_check.proofs.early_refusal.Tie as tie
 
-check-layout-requires : tie.Need-check-layout-requires
-check-layout-requires c κs = search needs
+module-refusal-requires : tie.Need-module-refusal-requires
+module-refusal-requires c κs = search needs
 
 enum-told : tie.Need-enum-told
 enum-told c = search needs
 
-name-refusal-requires : tie.Need-name-refusal-requires
-name-refusal-requires c κs = search needs
+loan-refusal-requires : tie.Need-loan-refusal-requires
+loan-refusal-requires c κs = search needs
 
-enum-told-2 : tie.Need-enum-told-2
-enum-told-2 c = search needs
-
-enum-known-layout : tie.Need-enum-known-layout
-enum-known-layout c = search needs
-
-enum-known-layout-2 : tie.Need-enum-known-layout-2
-enum-known-layout-2 c = search needs
+enum-known-refusal : tie.Need-enum-known-refusal
+enum-known-refusal c = search needs
 
 returns : tie.Need-returns
-returns c = search (refusals.good-layout, c .before .before .before .check-layout .ensures, c .name-refusal .ensures)
+returns c = search (refusals.module-passed, c .before .before .before .module-refusal .ensures, c .loan-refusal .ensures)
 
 returns-2 : tie.Need-returns-2
-returns-2 c = search (refusals.too-long, c .before .before .check-layout .ensures)
-
-returns-3 : tie.Need-returns-3
-returns-3 c = search (refusals.a-fault, c .before .before .before .check-layout .ensures)
-
-returns-4 : tie.Need-returns-4
-returns-4 c = search (refusals.too-deep, c .before .before .before .check-layout .ensures)
+returns-2 c = search (refusals.module-refused, c .before .before .before .module-refusal .ensures)
 
 pub early-refusal-spec : {M : Type 1} → statement M
 early-refusal-spec =
-    tie.close
-    (tie.spec
-    check-layout-requires
-    enum-told
-    name-refusal-requires
-    enum-told-2
-    enum-known-layout
-    enum-known-layout-2
-    returns
-    returns-2
-    returns-3
-    returns-4)
+    tie.close (tie.spec module-refusal-requires enum-told loan-refusal-requires enum-known-refusal returns returns-2)

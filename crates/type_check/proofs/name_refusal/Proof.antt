@@ -10,25 +10,14 @@ repeated-name-requires c κs = search needs
 enum-told : tie.Need-enum-told
 enum-told c = search needs
 
-loan-refusal-requires : tie.Need-loan-refusal-requires
-loan-refusal-requires c κs = search needs
-
 enum-known-repeated : tie.Need-enum-known-repeated
 enum-known-repeated c = search needs
 
 returns : tie.Need-returns
-returns c = search (refusals.no-name-repeated, c .before .before .before .repeated-name .ensures, c .loan-refusal .ensures)
+returns c = search (refusals.no-name-repeated, c .before .before .repeated-name .ensures)
 
 returns-2 : tie.Need-returns-2
 returns-2 c = search (refusals.name-repeated, c .before .before .before .repeated-name .ensures)
 
 pub name-refusal-spec : {M : Type 1} → statement M
-name-refusal-spec =
-    tie.close
-    (tie.spec
-    repeated-name-requires
-    enum-told
-    loan-refusal-requires
-    enum-known-repeated
-    returns
-    returns-2)
+name-refusal-spec = tie.close (tie.spec repeated-name-requires enum-told enum-known-repeated returns returns-2)
