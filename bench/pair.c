@@ -1,5 +1,6 @@
 /* Measures two builds of the product in turns:  pair OLD.so NEW.so FOLDER
- * FOLDER has the modules that `bench write FOLDER` wrote. A line for each class: its name, then NEW's time over OLD's. */
+ * FOLDER has the modules that `bench write FOLDER` wrote. A line for each class: its name, then NEW's time over OLD's. A module that one
+ * of the two refuses is left out. */
 #include <dirent.h>
 #include <dlfcn.h>
 #include <stdio.h>
@@ -39,14 +40,14 @@ static double now(void) {
     return time.tv_sec * 1e9 + time.tv_nsec;
 }
 
-/* Nanoseconds for one call, of so many. */
+/* Nanoseconds for one call, of so many; less than 0 if the module is refused. */
 static double timed(check_module *check, size_t length, int turns) {
     uint32_t row_count;
     size_t error_count, place;
     double start = now();
     for (int turn = 0; turn < turns; turn++)
         if (check(input, length, output, MOST_BYTES, rows, ROW_WORDS, errors, ERROR_WORDS, work, WORK_WORDS, &row_count, &error_count, &place))
-            stop("a module is refused");
+            return -1;
     return (now() - start) / turns;
 }
 
@@ -57,6 +58,10 @@ static void measure(const char *path, check_module *old, check_module *new, doub
     size_t length = fread(input, 1, MOST_BYTES, file);
     fclose(file);
     double once = timed(old, length, 1), old_best = 1e18, new_best = 1e18;
+    if (once < 0 || timed(new, length, 1) < 0) {
+        fprintf(stderr, "pair: refused, left out: %s\n", path);
+        return;
+    }
     int turns = 1;
     while (once * turns < 2e5 && turns < MOST_TURNS) turns *= 2;
     double start = now();
@@ -82,7 +87,7 @@ int main(int count, char **arguments) {
         const char *name = names[file]->d_name, *end = strrchr(name, '-');
         if (!end) continue;
         if (strncmp(class, name, end - name + 1)) {
-            if (class[0]) printf("%s %.4f\n", class, new_sum / old_sum);
+            if (old_sum > 0) printf("%s %.4f\n", class, new_sum / old_sum);
             snprintf(class, sizeof class, "%.*s", (int)(end - name + 1), name);
             old_sum = new_sum = 0;
         }

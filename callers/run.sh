@@ -1,6 +1,6 @@
 #!/bin/sh
-# Builds the static library and the examples in C and Rust over it, and holds what they print of a module file, and of the file cut short,
-# to what is expected. Then the Rust crate's tests, and the deepest and the longest modules on a thread with a stack of 128 KB. Exits
+# Builds the static library and the examples in C and Rust over it, and holds what they print of a module file, of the file cut short and of
+# a file of no bytes to what is expected. Then the Rust crate's tests, and the deepest and the longest modules on a thread with a stack of 128 KB. Exits
 # nonzero on a difference. Needs rt, cc and cargo on x86-64 Linux.
 set -eu
 for needed in rt cc cargo; do
@@ -31,6 +31,9 @@ head -c 111 callers/example.module >"$out/short.module"
 echo 'refused 2 at 0' >"$out/short.expected"
 expect callers/example.module callers/example.expected
 expect "$out/short.module" "$out/short.expected"
+: >"$out/empty.module"
+{ echo 'rows 7 errors 0' && tail -1 callers/example.expected; } >"$out/empty.expected"
+expect "$out/empty.module" "$out/empty.expected"
 cargo test --release
 "$out/stack_c" >"$out/stack.log"
 tail -1 "$out/stack.log"

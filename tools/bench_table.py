@@ -39,7 +39,7 @@ def main():
         last = [[run[member] for run in runs] for member in members]
         least = lambda column: None if last[-1][0][column] is None else min(row[column] for row in last[-1])
         times = [joined([least(column)], 0) for column in (BYTES, PRODUCT, LAYOUT, WALK, REFERENCE)]
-        by_byte = joined([min(row[PRODUCT] for row in rows) / rows[0][BYTES] for rows in last], 2)
+        by_byte = joined([min(row[PRODUCT] for row in rows) / rows[0][BYTES] if rows[0][BYTES] else None for rows in last], 2)
         by_walk = joined([middle([row[PRODUCT] / row[WALK] for row in rows]) for rows in last], 1)
         ratios = [joined([middle([row[column] for row in rows]) for rows in last], 1) for column in (RATIO, DECODING)]
         print('| ' + ' | '.join([name, times[0], times[1], by_byte, by_walk, *times[2:], *ratios]) + ' |')

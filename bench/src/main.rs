@@ -171,11 +171,11 @@ fn run(product: &Path, only: &str) -> Result<(), String> {
         let count = class.modules.len() as f64;
         let shown = |value: f64, digits| if is_asked { format!("{value:.digits$}") } else { "-".to_owned() };
         println!(
-            "| {} | {:.0} | {:.0} | {:.2} | {:.0} | {:.0} | {} | {} | {} | {} |",
+            "| {} | {:.0} | {:.0} | {} | {:.0} | {:.0} | {} | {} | {} | {} |",
             class.name,
             sum.bytes / count,
             sum.product / count,
-            sum.product / sum.bytes,
+            if sum.bytes > 0.0 { format!("{:.2}", sum.product / sum.bytes) } else { "-".to_owned() },
             sum.layout / count,
             sum.walk / count,
             shown(sum.reference / count, 0),

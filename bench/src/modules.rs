@@ -142,6 +142,8 @@ fn nested(count: usize) -> Vec<u8> {
 pub fn classes() -> Vec<Class> {
     let mut all = vec![];
     let mut put = |name: &str, modules: Vec<Vec<u8>>| all.push(Class { name: name.to_owned(), modules });
+    put("no bytes", vec![vec![]]);
+    put("no items", vec![Tree::module::<&str>(&[], vec![]).to_bytes()]);
     put("small", generated("tiny", 200..=800, 40));
     put("typical, 4 KB", generated("typed", 3_500..=4_500, 20));
     for size in [1_000, 2_000, 4_000, 8_000, 16_000, 32_000, MOST_BYTES] {

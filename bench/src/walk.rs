@@ -10,7 +10,8 @@ struct Walk<'a> {
 /// Whether a file passes tests 1 to 3.
 pub fn is_good(bytes: &[u8]) -> bool {
     let mut walk = Walk { bytes, names: 0 };
-    bytes.len() <= MOST_BYTES && walk.record(0, bytes.len(), 1, Allowed::One(1)) == Some((bytes.len(), 1))
+    let mut is_module = || walk.record(0, bytes.len(), 1, Allowed::One(1)) == Some((bytes.len(), 1));
+    bytes.is_empty() || bytes.len() <= MOST_BYTES && is_module()
 }
 
 impl Walk<'_> {

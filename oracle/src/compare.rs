@@ -158,6 +158,8 @@ struct Compare<'a> {
     silent: [usize; 3],
     /// How many modules the reference judged, by their items: none, one, up to four, five and more.
     judged: [usize; 4],
+    /// How many of them are files of no bytes.
+    no_bytes: usize,
     orders: usize,
     differences: usize,
 }
@@ -196,6 +198,7 @@ impl Compare<'_> {
             None => {
                 if let Ok((module, _)) = &truth.outcome {
                     self.judged[[0, 1, 2, 2, 2, 3][module.items.len().min(5)]] += 1;
+                    self.no_bytes += usize::from(bytes.is_empty());
                 }
             }
         }
@@ -252,8 +255,8 @@ impl Compare<'_> {
         let numbers: Vec<String> = refused.iter().enumerate().map(|(i, count)| format!("{}: {count}", i + 1)).collect();
         let _ = writeln!(text, "accepted {accepted}, refused {}", numbers.join(", "));
         let [none, one, few, many] = self.judged;
-        let _ = write!(text, "the reference judged {}: without items {none}, ", none + one + few + many);
-        let _ = writeln!(text, "with 1 item {one}, 2 to 4 {few}, 5 or more {many}");
+        let _ = write!(text, "the reference judged {}: without items {none} ", none + one + few + many);
+        let _ = writeln!(text, "(no bytes {}), with 1 item {one}, 2 to 4 {few}, 5 or more {many}", self.no_bytes);
         let [undecodable, large, late] = self.silent;
         let _ = writeln!(text, "the model alone: no UTF-8 {undecodable}, too large {large}, timeout {late}");
         text += &self.stats.missing();
@@ -303,6 +306,7 @@ pub fn compare(seed: u64, count: usize, program: &Path, folder: &Path) -> Result
         refused: [0; 8],
         silent: [0; 3],
         judged: [0; 4],
+        no_bytes: 0,
         orders: 0,
         differences: 0,
     };

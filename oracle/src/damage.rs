@@ -40,8 +40,9 @@ fn flatten(record: &Record, holders: &mut Vec<usize>, into: &mut Vec<Flat>) {
 /// The records of a good file, in byte order.
 fn flat_records(bytes: &[u8]) -> Vec<Flat> {
     let Ok(module) = layout::read(bytes) else { return vec![] };
+    let Some(list) = &module.list else { return vec![] };
     let mut records = vec![Flat { place: 0, length: bytes.len(), kind: 1, fields: 0, holders: vec![] }];
-    for child in std::iter::once(&module.list).chain(&module.items) {
+    for child in std::iter::once(list).chain(&module.items) {
         flatten(child, &mut vec![0], &mut records);
     }
     records

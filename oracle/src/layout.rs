@@ -1,4 +1,5 @@
-//! Tests 1 to 4 of document 01 over the bytes of a module file, and the tree of records of a file that passes them.
+//! Tests 1 to 4 of document 01, with document 02's paper 12, over the bytes of a module file, and the tree of records of a file that
+//! passes them.
 
 /// The most bytes a module file may have.
 pub const MOST_BYTES: usize = 65_536;
@@ -37,12 +38,19 @@ pub struct Place {
 }
 
 /// A module file that passed tests 1 to 4.
-#[derive(Clone, Debug)]
+#[derive(Clone, Debug, Default)]
 pub struct Module {
     pub names: Vec<Vec<u8>>,
     pub items: Vec<Record>,
-    /// The record of names.
-    pub list: Record,
+    /// The record of names; a file of no bytes has none.
+    pub list: Option<Record>,
+}
+
+impl Module {
+    /// Where the items start.
+    pub fn items_start(&self) -> usize {
+        self.list.as_ref().map_or(0, |list| list.place + list.length)
+    }
 }
 
 impl Record {
@@ -259,8 +267,11 @@ impl Walk<'_> {
     }
 }
 
-/// Tests 1 to 4 over a file.
+/// Tests 1 to 4 over a file. A file of no bytes is the module without names and items (document 02, paper 12).
 pub fn read(bytes: &[u8]) -> Result<Module, Refusal> {
+    if bytes.is_empty() {
+        return Ok(Module::default());
+    }
     if bytes.len() > MOST_BYTES {
         return Err(Refusal { number: 1, place: 0 });
     }
@@ -278,5 +289,5 @@ pub fn read(bytes: &[u8]) -> Result<Module, Refusal> {
         }
     }
     let names = list.children.iter().map(|name| name.bytes.clone()).collect();
-    Ok(Module { names, items: children.collect(), list })
+    Ok(Module { names, items: children.collect(), list: Some(list) })
 }

@@ -63,7 +63,7 @@ pub fn another_order(bytes: &[u8], seed: u64) -> Option<Vec<u8>> {
     let mut left: Vec<(&Record, HashSet<u32>)> = module.items.iter().map(|item| (item, needs(item, &all))).collect();
     let mut random = Random::new(seed);
     let mut placed = HashSet::new();
-    let mut out = bytes[..module.list.place + module.list.length].to_vec();
+    let mut out = bytes[..module.items_start()].to_vec();
     while !left.is_empty() {
         let ready: Vec<usize> = (0..left.len()).filter(|&i| left[i].1.is_subset(&placed)).collect();
         let (item, _) = left.remove(*random.pick(&ready));

@@ -17,7 +17,7 @@ use std::{
 use crate::buffers::words;
 
 /// How much is lent: bytes of output, words of rows, errors and work.
-#[derive(Clone, Copy, Debug, PartialEq, Eq)]
+#[derive(Clone, Copy, Debug, PartialEq, Eq, Hash)]
 pub struct Loans {
     pub output: usize,
     pub rows: usize,

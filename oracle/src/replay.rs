@@ -26,6 +26,7 @@ pub struct Replay {
     seen: HashSet<Feature>,
     errors: [usize; ERROR_KINDS + 1],
     modules: HashSet<Vec<u8>>,
+    cases: HashSet<(Vec<u8>, Loans)>,
 }
 
 /// How many kinds of errors there are.
@@ -173,11 +174,12 @@ fn class_of(seed: u64) -> &'static str {
 }
 
 impl Replay {
-    /// Adds a case, unless there is one with this module.
+    /// Adds a case, unless there is one with this module and these loans.
     fn add(&mut self, name: String, bytes: &[u8], loans: Loans, truth: &Truth) {
-        if !self.modules.insert(bytes.to_vec()) {
+        if !self.cases.insert((bytes.to_vec(), loans)) {
             return;
         }
+        self.modules.insert(bytes.to_vec());
         self.bytes.extend(case(bytes, loans, truth));
         self.names.push(name);
         if let (None, Ok((module, answer))) = (truth.refusal(bytes, loans), &truth.outcome) {

@@ -44,7 +44,7 @@ impl Stats {
         self.bytes += bytes.len();
         *self.records.entry(1).or_default() += 1;
         let mut depth = 1;
-        for record in std::iter::once(&module.list).chain(&module.items) {
+        for record in module.list.iter().chain(&module.items) {
             depth = depth.max(1 + self.count(record));
         }
         self.count_answer(answer);

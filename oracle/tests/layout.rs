@@ -29,8 +29,16 @@ fn with_tail(item: Tree, tail: &[u8]) -> Vec<u8> {
 }
 
 #[test]
+fn no_bytes() {
+    // Both checkers take it for the module without items.
+    let least = Tree::module::<&str>(&[], vec![]).to_bytes();
+    assert_eq!(least.len(), 32);
+    assert_eq!(both(&[]).text(), both(&least).text());
+    assert_eq!((both(&[]).rows.count(), both(&[]).errors.len()), (7, 0));
+}
+
+#[test]
 fn no_module() {
-    assert_eq!(verdict(&[]), "refused 2 at 0");
     for length in 1..16 {
         assert_eq!(verdict(&module(vec![])[..length]), "refused 2 at 0");
     }

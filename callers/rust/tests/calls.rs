@@ -45,6 +45,26 @@ fn module_accepted() {
     assert_eq!(lent.work, [0, 0, 0, 0, 0, 0, 0, 0, 9]);
 }
 
+/// A file of no bytes is the module without names and items, with no more than seven rows lent.
+#[test]
+fn no_bytes() {
+    for (output, errors, work) in [(0, 0, 0), (1, 7, 4)] {
+        let mut lent = lend(output, 29, errors, work);
+        assert_eq!(check(&[], &mut lent), Ok(Counts { rows: 7, errors: 0 }));
+        assert_eq!(lent.rows[20..], [6, 4, 0, 0, 11, 6, 0, 65535, 9]);
+        lent.rows.fill(9);
+        assert!(untouched(&lent));
+        for rows in [0, 27] {
+            let mut lent = lend(output, rows, errors, work);
+            assert_eq!(check(&[], &mut lent), refused(6, 0));
+            assert!(lent.rows.iter().chain(&lent.errors).all(|&w| w == 0));
+            lent.rows.fill(9);
+            lent.errors.fill(9);
+            assert!(untouched(&lent));
+        }
+    }
+}
+
 #[test]
 fn module_refused_untouched() {
     let mut twice = Vec::new();
@@ -54,7 +74,8 @@ fn module_refused_untouched() {
     let (all, one_short) = (MODULE.len(), MODULE.len() - 1);
     for (input, output, work, number, place) in [
         (&[0; 65537][..], 65537, WORK, 1, 0),
-        (&[], 0, WORK, 2, 0),
+        (&[16], 0, 0, 2, 0),
+        (&[0; 15], 15, WORK, 2, 0),
         (&MODULE[..one_short], all, WORK, 2, 0),
         (&twice, all, WORK, 4, 48),
         (MODULE, one_short, WORK, 5, 0),

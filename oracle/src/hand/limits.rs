@@ -25,6 +25,7 @@ pub fn add(all: &mut Vec<Case>) {
     }
     lists(all);
     loans(all);
+    no_bytes(all);
     repeated_names(all);
 }
 
@@ -133,8 +134,39 @@ fn loans(all: &mut Vec<Case>) {
     for ((what, loans), line) in lent.into_iter().zip(4..) {
         all.push(Case { name: format!("the example at line {line}, {what}"), bytes: example_module(line), loans });
     }
-    all.push(Case { name: "the empty file, nothing lent".to_owned(), bytes: vec![], loans: lent[10].1 });
-    put(all, "the empty file", vec![]);
+}
+
+/// The file of no bytes with loans around seven rows, the module record without names and items, and files of 1 to 16 bytes.
+fn no_bytes(all: &mut Vec<Case>) {
+    let none = Loans { output: 0, rows: 0, errors: 0, work: 0 };
+    let other = [
+        ("nothing else lent", none),
+        ("an output", Loans { output: 100, ..none }),
+        ("error words", Loans { errors: 20, ..none }),
+        ("working words", Loans { work: 11, ..none }),
+        ("all lent", Loans { output: 100, rows: 0, errors: 20, work: 11 }),
+    ];
+    let mut case = |name: String, bytes: &[u8], loans| all.push(Case { name, bytes: bytes.to_vec(), loans });
+    for rows in [0, 1, 24, 27, 28, 29, 32, REPORT.rows] {
+        for (what, loans) in other {
+            case(format!("the empty file, {rows} row words, {what}"), &[], Loans { rows, ..loans });
+        }
+    }
+    case("the empty file".to_owned(), &[], REPORT);
+    let least = Tree::module::<&str>(&[], vec![]).to_bytes();
+    for (output, rows) in [(10, 28), (31, 28), (32, 27), (32, 28), (33, 29)] {
+        let loans = Loans { output, rows, ..none };
+        case(format!("a module without names and items, {output} bytes of output, {rows} row words"), &least, loans);
+    }
+    for length in 1..=16 {
+        case(format!("{length} zeros"), &vec![0; length], REPORT);
+        case(format!("{length} zeros, nothing lent"), &vec![0; length], none);
+        case(format!("{length} bytes of a module"), &least[..length], REPORT);
+        // The length says that this is all.
+        let mut short = least[..length].to_vec();
+        short[0] = length as u8;
+        case(format!("a module of {length} bytes"), &short, Loans { output: 16, rows: 28, ..none });
+    }
 }
 
 fn repeated_names(all: &mut Vec<Case>) {

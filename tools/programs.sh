@@ -1,0 +1,46 @@
+#!/bin/sh
+# Runs ./run report, dump and shuffle on a file of no bytes, on files of 1, 8 and 15 bytes and on document 01's module, and holds what they write
+# and their status to what is expected:  tools/programs.sh
+set -eu
+cd "$(dirname "$0")/.."
+room=$(mktemp -d)
+trap 'rm -rf "$room"' EXIT
+failed=0
+
+# expect STATUS FILE PROGRAM MODULE [NUMBER]: the program ends so, and writes this file, to standard error if it is shuffle and refuses
+expect() {
+    status=$1 wanted=$2
+    shift 2
+    ended=0
+    ./run "$@" >"$room/out" 2>"$room/said" || ended=$?
+    [ "$1 $status" != "shuffle 1" ] || cat "$room/said" >>"$room/out"
+    if [ $ended -ne "$status" ] || ! diff "$wanted" "$room/out"; then
+        echo "programs: ./run $* ended with status $ended, or wrote something else than expected"
+        failed=1
+    fi
+}
+
+: >"$room/empty"
+echo 'rows 7 errors 0' >"$room/seven_rows"
+for words in '1 1 0 0 0' '2 2 0 0 0' '3 3 0 0 0' '4 4 0 0 0' '5 5 0 0 0' '6 6 4 0 0' '7 11 6 0 65535'; do
+    echo "row $words"
+done >"$room/fixed_rows"
+expect 0 "$room/seven_rows" report "$room/empty"
+expect 0 "$room/fixed_rows" dump "$room/empty"
+expect 0 "$room/empty" shuffle "$room/empty" 7
+
+echo 'refused 2 at 0' >"$room/fault"
+for length in 1 8 15; do
+    head -c $length callers/example.module >"$room/short"
+    for program in report dump; do
+        expect 1 "$room/fault" $program "$room/short"
+    done
+    expect 1 "$room/fault" shuffle "$room/short" 7
+done
+
+head -3 callers/example.expected >"$room/errors"
+expect 1 "$room/errors" report callers/example.module
+expect 0 callers/example.module shuffle callers/example.module 7
+
+[ $failed -eq 0 ] || exit 1
+echo 'programs: ok'
