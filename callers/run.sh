@@ -1,7 +1,7 @@
 #!/bin/sh
-# Builds the static library and the examples in C and Rust over it, and holds what they print of a module file, of the file cut short and of
-# a file of no bytes to what is expected. Then the Rust crate's tests, and the deepest and the longest modules on a thread with a stack of 128 KB. Exits
-# nonzero on a difference. Needs rt, cc and cargo on x86-64 Linux.
+# Builds the static library and the examples in C and Rust over it, and holds what they print of a module file, of the file cut short and
+# of a file of no bytes to what is expected. Then the Rust crate's tests, and the deepest and the longest modules on a thread with a stack
+# of 128 KB. Exits nonzero on a difference. Needs rt, cc and cargo on x86-64 Linux.
 set -eu
 for needed in rt cc cargo; do
     command -v "$needed" >/dev/null || { echo "callers: $needed is needed and is not on the PATH" >&2; exit 2; }

@@ -1,6 +1,6 @@
 #!/bin/sh
-# Runs ./run report, dump and shuffle on a file of no bytes, on files of 1, 8 and 15 bytes and on document 01's module, and holds what they write
-# and their status to what is expected:  tools/programs.sh
+# Runs ./run report, dump and shuffle on a file of no bytes, on files of 1, 8 and 15 bytes and on document 01's module, and holds what they
+# write and their status to what is expected:  tools/programs.sh
 set -eu
 cd "$(dirname "$0")/.."
 room=$(mktemp -d)
