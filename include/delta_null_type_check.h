@@ -7,7 +7,7 @@
  * any bytes and any words: what is wrong or too short is refused.
  *
  * A call needs at most 128 KB (131,072 bytes) of stack, whatever the module and the parts lent. No proof speaks of the stack: this is
- * measured, by callers/c/stack.c, on the deepest and the longest modules that were found; the most is 91,029 bytes.
+ * measured, by callers/c/stack.c, on the deepest and the longest modules that were found; the most is 90,117 bytes.
  *
  * What a caller owes, since the proof takes it from the types `&` and `&mut`:
  *  - a pointer is not NULL, even where the length is 0, and is aligned for its type;
@@ -32,7 +32,7 @@ extern "C" {
 enum delta_null_refusal {
     DELTA_NULL_ACCEPTED = 0,
     DELTA_NULL_TOO_LONG = 1,        /* the module has over 65,536 bytes */
-    DELTA_NULL_LAYOUT_FAULT = 2,    /* the bytes break the layout; the place is that of the fault */
+    DELTA_NULL_LAYOUT_FAULT = 2,    /* the bytes break the layout; the place is that of the fault: 0 where there are 1 to 15 bytes */
     DELTA_NULL_TOO_DEEP = 3,        /* a record is due at depth 65; the place is the record's */
     DELTA_NULL_REPEATED_NAME = 4,   /* a name equals an earlier one; the place is that of the first such */
     DELTA_NULL_SHORT_LOAN = 5,      /* the output is shorter than the input, or there are fewer than 4 working words a name;
@@ -51,7 +51,7 @@ enum delta_null_refusal {
 #define DELTA_NULL_SIZE_TOO_LARGE 65536u /* above 65,535 words */
 #define DELTA_NULL_SIZE_UNKNOWN 65537u   /* Unknown inside, other than behind a pointer */
 
-/* Checks a module.
+/* Checks a module. A module of no bytes is the one without names and items: it needs seven rows and nothing else lent.
  *
  * Accepted (0): the output begins with the module, each of its type slots filled with the number of a type row; the rows begin with
  * *row_count rows, the errors with *error_count errors in their order (kind, file, line, column, three operands). What lies past
