@@ -2,7 +2,8 @@
 # Measures the product against an earlier one:  DELTA_NULL_SRC=FOLDER tools/bench_pair.sh OLD.a
 # OLD.a is the earlier static library (`rt staticlib exports` in a clone of that commit), FOLDER has the source of the Rust reference,
 # which draws up the modules. Where the code lies in memory moves a class by some parts of a hundred, so each library is linked in four
-# places; for each class the mean of the 16 ratios, new over old, the least and the greatest are written.
+# places; for each class the mean of the 16 ratios, new over old, the least and the greatest are written. Then the microseconds of the
+# questions about rows, of both (bench/questions.c, built with this header for both).
 set -e
 . "$(dirname "$0")/common.sh"
 [ -f "$1" ] || stop "usage: DELTA_NULL_SRC=FOLDER tools/bench_pair.sh OLD.a"
@@ -34,3 +35,9 @@ done | awk '
     !($1 in count) { order[++classes] = $1; least[$1] = $2; greatest[$1] = $2 }
     { count[$1]++; sum[$1] += log($2); if ($2 < least[$1]) least[$1] = $2; if ($2 > greatest[$1]) greatest[$1] = $2 }
     END { for (i = 1; i <= classes; i++) { c = order[i]; printf "%s mean %.3f, from %.2f to %.2f\n", c, exp(sum[c] / count[c]), least[c], greatest[c] } }'
+for side in old new; do
+    [ $side = old ] && library=$old || library=$DELTA_NULL_LIB
+    cc -std=c11 -O2 -D_POSIX_C_SOURCE=200809L -o $pairs/questions_$side questions.c "$library"
+    echo "questions about rows, $side:"
+    $pairs/questions_$side
+done

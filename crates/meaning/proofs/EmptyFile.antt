@@ -10,7 +10,7 @@ use lib.ListN.{length, take, drop, take-append-drop}
 use lib.Seq.{ext-getD, getD-take, length-take-le}
 use borrow.Author.Tests.{lt-ltb, le-ltb}
 use Rattle.types.specs.Ty.{same, member, distinctCount, parts}
-use Rattle.types.specs.Table.{rowWidth, fixedWords}
+use Rattle.types.specs.Table.{rowWidth, fixedLength, fixedWords}
 use Rattle.fallible.specs.Outcome.{Outcome, refused, accepted, orNext, firstRefusing, outcomeAfter}
 use Rattle.fallible.specs.Errors.{errorWidth}
 use Rattle.shape.specs.Shape.{shapeOf, dueIn, isDone, mayStand, stateAfter, allowed}
@@ -26,7 +26,7 @@ use Rattle.meaning.specs.Module.{declarations, declareAll, moduleErrors,
 use Rattle.meaning.specs.Promise.{workWidth, treesOf, errorsOf, typesOf, Counts, countsOf, Buffers, Lengths, lengthsOf, refuseIf, tests, answerOf, cleared}
 use Rattle.meaning.specs.Promise.{Accepted, Checked}
 use Rattle.meaning.specs.JoiningOrder.{Supposed, globalName, aliasName}
-use Rattle.meaning.specs.EmptyFile.{fixedLength, sevenRows, withFixedRows, withZeros, EmptyFile, ShortFile}
+use Rattle.meaning.specs.EmptyFile.{sevenRows, withFixedRows, withZeros, EmptyFile, ShortFile}
 use Rattle.meaning.proofs.Cleared.{cleared-all}
 
 -- A file of no bytes has no names and no items, and so no types but the fixed ones and no errors

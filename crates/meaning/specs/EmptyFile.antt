@@ -1,18 +1,14 @@
 -- Document 02, paper 12: a file of no bytes means the module without names and items. It is no layout fault (`layoutOf`, crate node), and has
 -- neither names nor items by their definitions; what follows from that for a run is said here.
-use Prim.Native.Nat.{ℕ, _*_, _≤_, _<_}
+use Prim.Native.Nat.{ℕ, _≤_, _<_}
 use mathlib.Core.Path.{_≡_}
 use mathlib.Core.List.{List, [], _++_}
 use lib.ListN.{length, drop, replicate}
-use Rattle.types.specs.Table.{rowWidth, fixedCount, fixedWords}
+use Rattle.types.specs.Table.{fixedCount, fixedLength, fixedWords}
 use Rattle.fallible.specs.Outcome.{Outcome, refused, accepted}
 use Rattle.node.specs.Bytes.{headSize}
 use Rattle.node.specs.Names.{namesOf, itemsOf}
 use Rattle.meaning.specs.Promise.{Counts, Buffers, Checked}
-
--- The words of seven whole rows
-abbrev pub fixedLength : ℕ
-fixedLength = rowWidth * fixedCount
 
 -- Seven rows and no errors
 abbrev pub sevenRows : Counts

@@ -1,10 +1,12 @@
 -- Worked examples: document 01's module of 112 bytes, and the order in which the two passes convert a function's types.
-use Prim.Native.Nat.{ℕ}
+use Prim.Native.Nat.{ℕ, _*_}
 use mathlib.Core.Path.{_≡_}
 use mathlib.Core.List.{List, [], _∷_}
 use mathlib.Core.Option.{none}
 use Rattle.types.specs.Ty.{u16}
+use Rattle.types.specs.Table.{rowWidth}
 use Rattle.fallible.specs.Outcome.{accepted}
+use Rattle.fallible.specs.Errors.{errorWidth}
 use Rattle.node.specs.Tree.{Location, location, nameType, pointerType, Item, functionDefinition, typeAlias}
 use Rattle.node.specs.Tree.{globalDeclaration, noValue}
 use mathlib.Core.Bool.{false}
@@ -16,7 +18,7 @@ use Rattle.meaning.specs.Promise.{Lengths, errorsOf, answerOf}
 
 -- What the report program lends: 3,000 rows, 2,000 errors, 16,376 working words
 abbrev pub reportLoans : Lengths
-reportLoans = record { output = 65537; rows = 12000; errors = 14000; work = 16376 }
+reportLoans = record { output = 65537; rows = rowWidth * 3000; errors = errorWidth * 2000; work = 16376 }
 
 -- Line l
 abbrev pub line : ℕ → Location

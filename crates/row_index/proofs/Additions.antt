@@ -9,7 +9,7 @@ use Rattle.literal.specs.Digits.{bytes, DigitTable}
 use Rattle.rows.specs.Row.{rowAt}
 use Rattle.rows.specs.declared.Words.{Words}
 use Rattle.row_index.specs.Index.{digitsStart, indexLength, withRow, withNext, withRows, Indexed}
-use Rattle.row_index.proofs.Index.{indexed-none, indexed-more}
+use Rattle.row_index.proofs.Index.{rows-indexed-none, indexed-more}
 
 module _ (b w : List ℕ) (m : ℕ) where
   -- no row
@@ -122,6 +122,8 @@ module _ (table : List ℕ) (digits : DigitTable table) where
       let part = written-part zeros table digitsStart bytes zeros-long (digits .long) in
       subst (Indexed w count) (sym e)
       (indexed-rows b₀ w 0 count (omega arith)
-      (indexed-none w b₀ (ap length first ∙ long ∙ zeros-long)
-      (λ bucket h. ap (λ (l : List ℕ). getD l bucket 0) first ∙ front bucket (omega arith) ∙ getD-replicate indexLength bucket 0 0 (omega arith))
-      (subst DigitTable (sym (ap (λ (l : List ℕ). take bytes (drop digitsStart l)) first ∙ part)) digits)))
+      (record {
+        rows = rows-indexed-none w b₀ (ap length first ∙ long ∙ zeros-long)
+            (λ bucket h. ap (λ (l : List ℕ). getD l bucket 0) first ∙ front bucket (omega arith) ∙ getD-replicate indexLength bucket 0 0 (omega arith));
+        digits = subst DigitTable (sym (ap (λ (l : List ℕ). take bytes (drop digitsStart l)) first ∙ part)) digits;
+      }))

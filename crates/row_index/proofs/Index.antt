@@ -14,25 +14,25 @@ use Rattle.rows.specs.Row.{rowAt, Distinct}
 use Rattle.rows.specs.Search.{Decides, Found}
 use Rattle.rows.specs.declared.Words.{Words}
 use Rattle.rows.proofs.Search.{last-or}
-use Rattle.row_index.specs.Index.{heads, places, digitsStart, indexLength, digitsIn, bucketOf, withRow, Highest, Indexed, Followed}
+use Rattle.row_index.specs.Index.{heads, places, digitsStart, indexLength, digitsIn, bucketOf, withRow, Highest, RowsIndexed, Indexed, Followed}
 
 pub bucket-low : (r : Words) → bucketOf r < heads
 unfolding bucketOf
 bucket-low r = omega arith
 
 -- Rows are in their buckets as far as there are places
-indexed-far : {w : List ℕ} {count : ℕ} {b : List ℕ} (l : Indexed w count b) (i : ℕ) → i ≤ count → i ≤ places → i ≤ l .last
+indexed-far : {w : List ℕ} {count : ℕ} {b : List ℕ} (l : RowsIndexed w count b) (i : ℕ) → i ≤ count → i ≤ places → i ≤ l .last
 indexed-far l i h room = ⊎-elim (λ (e : l .last ≡ _). omega arith) (λ (e : l .last ≡ places). omega arith) (l .all)
 
 -- The search for the row r past row m has come to row n of its bucket
 pub record Following (w b : List ℕ) (m count : ℕ) (r : Words) (n : ℕ) : Type 0 where
-  pub indexed : Indexed w count b
+  pub indexed : RowsIndexed w count b
   pub high : n ≤ indexed .last
   pub own : 1 ≤ n → bucketOf (rowAt w n) ≡ bucketOf r
   pub top : (i : ℕ) → m < i → i ≤ indexed .last → rowAt w i ≡ r → i ≤ n
 
 module _ (w b : List ℕ) (m count : ℕ) (r : Words) where
-  pub following-start : Indexed w count b → (bucket : ℕ) → bucket ≡ bucketOf r → bucket < heads → Following w b m count r (getD b bucket 0)
+  pub following-start : RowsIndexed w count b → (bucket : ℕ) → bucket ≡ bucketOf r → bucket < heads → Following w b m count r (getD b bucket 0)
   following-start l bucket e h =
       let first = l .head bucket h in
       record {
@@ -147,8 +147,8 @@ pub row-linked : (b : List ℕ) (n : ℕ) (r : Words) → n ≤ places → (buck
 row-linked b n r h bucket e = ap (λ (x : ℕ). set (set b (heads + n - 1) (getD b x 0)) x n) e ∙ sym (with-row b n r h)
 
 -- An index of no rows: the words of the buckets are 0
-pub indexed-none : (w b : List ℕ) → length b ≡ indexLength → ((bucket : ℕ) → bucket < heads → getD b bucket 0 ≡ 0) → DigitTable (digitsIn b) → Indexed w 0 b
-indexed-none w b long zeros digits =
+pub rows-indexed-none : (w b : List ℕ) → length b ≡ indexLength → ((bucket : ℕ) → bucket < heads → getD b bucket 0 ≡ 0) → RowsIndexed w 0 b
+rows-indexed-none w b long zeros =
     record {
       long = long;
       last = 0;
@@ -158,7 +158,6 @@ indexed-none w b long zeros digits =
       head = λ bucket h. subst (Highest w bucket (0 + 1)) (sym (zeros bucket h))
           (record { low = omega arith; own = λ p. absurd (omega arith); top = λ i l q x. omega arith });
       link = λ n l h. absurd (omega arith);
-      digits = digits;
     }
 
 -- An index of rows is one of the same rows in other words
@@ -171,8 +170,8 @@ module _ (w w′ : List ℕ) (c : ℕ) (same : (i : ℕ) → 1 ≤ i → i ≤ c
         top = λ i p l e. t .top i p l (sym (ap bucketOf (same i p (omega arith))) ∙ e);
       }
 
-pub indexed-kept : {w w′ : List ℕ} {c : ℕ} {b : List ℕ} → Indexed w c b → ((i : ℕ) → 1 ≤ i → i ≤ c → rowAt w′ i ≡ rowAt w i) → Indexed w′ c b
-indexed-kept {w} {w′} {c} {b} l same =
+rows-indexed-kept : {w w′ : List ℕ} {c : ℕ} {b : List ℕ} → RowsIndexed w c b → ((i : ℕ) → 1 ≤ i → i ≤ c → rowAt w′ i ≡ rowAt w i) → RowsIndexed w′ c b
+rows-indexed-kept {w} {w′} {c} {b} l same =
     let f = l .few in
     record {
       long = l .long;
@@ -184,14 +183,13 @@ indexed-kept {w} {w′} {c} {b} l same =
       link = λ n p h.
           highest-kept w w′ c same _ n _ (omega arith)
           (subst (λ (x : ℕ). Highest w x n (getD b (heads + n - 1) 0)) (sym (ap bucketOf (same n p (omega arith)))) (l .link n p h));
-      digits = l .digits;
     }
 
 -- One more row, in its bucket if there is a place for it
 module _ (w : List ℕ) (c : ℕ) (b : List ℕ) (r : Words) (e : rowAt w (c + 1) ≡ r) where
   -- no place: all places are taken
-  indexed-full : Indexed w c b → places < c + 1 → Indexed w (c + 1) b
-  indexed-full l h =
+  rows-indexed-full : RowsIndexed w c b → places < c + 1 → RowsIndexed w (c + 1) b
+  rows-indexed-full l h =
       let f = l .few in
       let p = l .fits in
       record {
@@ -202,10 +200,9 @@ module _ (w : List ℕ) (c : ℕ) (b : List ℕ) (r : Words) (e : rowAt w (c + 1
         all = inr (⊎-elim (λ (q : l .last ≡ c). omega arith) (λ (q : l .last ≡ places). q) (l .all));
         head = l .head;
         link = l .link;
-        digits = l .digits;
       }
 
-  module _ (l : Indexed w c b) (room : c + 1 ≤ places) where
+  module _ (l : RowsIndexed w c b) (room : c + 1 ≤ places) where
     last-row : l .last ≡ c
     last-row = ⊎-elim (λ (q : l .last ≡ c). q) (λ (q : l .last ≡ places). let f = l .few in absurd (omega arith)) (l .all)
 
@@ -274,31 +271,37 @@ module _ (w : List ℕ) (c : ℕ) (b : List ℕ) (r : Words) (e : rowAt w (c + 1
             (subst (Highest w (bucketOf (rowAt w (c + 1))) (c + 1)) (sym link-own)
             (subst (λ (x : ℕ). Highest w x (c + 1) (getD b (bucketOf r) 0)) (sym (ap bucketOf e)) (old (bucketOf r) (bucket-low r))))
 
-    digits-after : digitsIn after ≡ digitsIn b
-    digits-after =
-        let h = bucket-low r in
-        let link : heads + (c + 1) - 1 < digitsStart = omega arith in
-        let head : bucketOf r < digitsStart = omega arith in
-        ap (take {A = ℕ} bytes)
-        (drop-set-lt digitsStart (set b (heads + (c + 1) - 1) (getD b (bucketOf r) 0)) (bucketOf r) (c + 1) head
-        ∙ drop-set-lt digitsStart b (heads + (c + 1) - 1) (getD b (bucketOf r) 0) link)
+    rows-indexed-after : RowsIndexed w (c + 1) after
+    rows-indexed-after =
+        record { long = simp length-set (l .long); last = c + 1; few = omega arith; fits = room; all = inl refl; head = head-after; link = link-after }
 
-    indexed-after : Indexed w (c + 1) after
-    indexed-after =
-        record {
-          long = simp length-set (l .long);
-          last = c + 1;
-          few = omega arith;
-          fits = room;
-          all = inl refl;
-          head = head-after;
-          link = link-after;
-          digits = subst DigitTable (sym digits-after) (l .digits);
-        }
+pub rows-indexed-more : {w : List ℕ} {c : ℕ} {b : List ℕ} → RowsIndexed w c b → (r : Words) → rowAt w (c + 1) ≡ r → RowsIndexed w (c + 1) (withRow b (c + 1) r)
+rows-indexed-more {w} {c} {b} l r e = go (leb (c + 1) places) refl
+  where
+    go : (t : Bool) → leb (c + 1) places ≡ t → RowsIndexed w (c + 1) (withRow b (c + 1) r)
+    go true t = let h = leb-true _ _ t in subst (RowsIndexed w (c + 1)) (sym (with-row b (c + 1) r h)) (rows-indexed-after w c b r e l h)
+    go false t = let h = leb-false _ _ t in subst (RowsIndexed w (c + 1)) (sym (without-row b (c + 1) r h)) (rows-indexed-full w c b r e l h)
+
+-- The digits stay where they are
+digits-kept : (b : List ℕ) (n : ℕ) (r : Words) → 1 ≤ n → digitsIn (withRow b n r) ≡ digitsIn b
+digits-kept b n r l = go (leb n places) refl
+  where
+    go : (t : Bool) → leb n places ≡ t → digitsIn (withRow b n r) ≡ digitsIn b
+    go true t =
+        let h = leb-true n places t in
+        let low = bucket-low r in
+        let link : heads + n - 1 < digitsStart = omega arith in
+        let head : bucketOf r < digitsStart = omega arith in
+        ap digitsIn (with-row b n r h)
+        ∙ ap (take {A = ℕ} bytes)
+        (drop-set-lt digitsStart (set b (heads + n - 1) (getD b (bucketOf r) 0)) (bucketOf r) n head
+        ∙ drop-set-lt digitsStart b (heads + n - 1) (getD b (bucketOf r) 0) link)
+    go false t = ap digitsIn (without-row b n r (leb-false n places t))
+
+-- Both
+pub indexed-kept : {w w′ : List ℕ} {c : ℕ} {b : List ℕ} → Indexed w c b → ((i : ℕ) → 1 ≤ i → i ≤ c → rowAt w′ i ≡ rowAt w i) → Indexed w′ c b
+indexed-kept l same = record { rows = rows-indexed-kept (l .rows) same; digits = l .digits }
 
 pub indexed-more : {w : List ℕ} {c : ℕ} {b : List ℕ} → Indexed w c b → (r : Words) → rowAt w (c + 1) ≡ r → Indexed w (c + 1) (withRow b (c + 1) r)
-indexed-more {w} {c} {b} l r e = go (leb (c + 1) places) refl
-  where
-    go : (t : Bool) → leb (c + 1) places ≡ t → Indexed w (c + 1) (withRow b (c + 1) r)
-    go true t = let h = leb-true _ _ t in subst (Indexed w (c + 1)) (sym (with-row b (c + 1) r h)) (indexed-after w c b r e l h)
-    go false t = let h = leb-false _ _ t in subst (Indexed w (c + 1)) (sym (without-row b (c + 1) r h)) (indexed-full w c b r e l h)
+indexed-more {w} {c} {b} l r e =
+    record { rows = rows-indexed-more (l .rows) r e; digits = subst DigitTable (sym (digits-kept b (c + 1) r (omega arith))) (l .digits) }

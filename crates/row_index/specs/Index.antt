@@ -40,9 +40,9 @@ pub record Highest (w : List ℕ) (bucket n v : ℕ) : Type 0 where
   pub own : 1 ≤ v → bucketOf (rowAt w v) ≡ bucket
   pub top : (i : ℕ) → 1 ≤ i → i < n → bucketOf (rowAt w i) ≡ bucket → i ≤ v
 
--- b is an index of the first `count` rows of w: the rows up to `last` are in their buckets, all `count` or as many as have a place.
--- The word of a bucket is its highest row, the word of a row is the one before it in its bucket. The digits are in their place.
-pub record Indexed (w : List ℕ) (count : ℕ) (b : List ℕ) : Type 0 where
+-- b has the first `count` rows of w in their buckets: those up to `last` are, all `count` or as many as have a place.
+-- The word of a bucket is its highest row, the word of a row is the one before it in its bucket.
+pub record RowsIndexed (w : List ℕ) (count : ℕ) (b : List ℕ) : Type 0 where
   pub long : length b ≡ indexLength
   pub last : ℕ
   pub few : last ≤ count
@@ -50,6 +50,10 @@ pub record Indexed (w : List ℕ) (count : ℕ) (b : List ℕ) : Type 0 where
   pub all : (last ≡ count) ⊎ (last ≡ places)
   pub head : (bucket : ℕ) → bucket < heads → Highest w bucket (last + 1) (getD b bucket 0)
   pub link : (n : ℕ) → 1 ≤ n → n ≤ last → Highest w (bucketOf (rowAt w n)) n (getD b (heads + n - 1) 0)
+
+-- What walks are lent: the rows are in their buckets, and the digits in their place
+pub record Indexed (w : List ℕ) (count : ℕ) (b : List ℕ) : Type 0 where
+  pub rows : RowsIndexed w count b
   pub digits : DigitTable (digitsIn b)
 
 -- The index b with row n, of the words r, in its bucket; b as it is if row n has no place

@@ -10,7 +10,7 @@ ghost use lib.ListN.{length};
 ghost use Rattle.contract.specs.Moments.{old, final};
 ghost use Rattle.rows.specs.Row.{rowWidth, Distinct};
 ghost use Rattle.rows.specs.Search.{Found};
-ghost use Rattle.row_index.specs.Index.{heads, bucketOf, withRow, withRows, Indexed, Followed};
+ghost use Rattle.row_index.specs.Index.{heads, bucketOf, withRow, withRows, RowsIndexed, Followed};
 
 // The words of an index: the highest row of each bucket, then, for each row that has a place, the one before it in its
 // bucket, then the worth of each byte as a digit.
@@ -42,7 +42,7 @@ fn bucket_of(row: Words) -> usize
 
 // The row past row m that has these words, of those in a bucket, or 0.
 fn follow(rows: &[u32], index: &[u16; LENGTH], m: u32, count: u32, row: Words) -> u32
-    requires { ⌜ Indexed (now rows) count (now index) ⌝ }
+    requires { ⌜ RowsIndexed (now rows) count (now index) ⌝ }
     requires { ⌜ rowWidth * count ≤ length (now rows) ⌝ }
     ensures { λ r. ⌜ Followed (old rows) m count row r ⌝ }
 {
@@ -63,7 +63,7 @@ fn follow(rows: &[u32], index: &[u16; LENGTH], m: u32, count: u32, row: Words) -
 
 // The row past row m that has these words, or 0. No two rows are alike.
 pub fn find(rows: &[u32], index: &[u16; LENGTH], m: u32, count: u32, row: Words) -> u32
-    requires { ⌜ Indexed (now rows) count (now index) ⌝ }
+    requires { ⌜ RowsIndexed (now rows) count (now index) ⌝ }
     requires { ⌜ (m ≤ count) × (rowWidth * count ≤ length (now rows)) × Distinct (now rows) count ⌝ }
     ensures { λ r. ⌜ Found (old rows) m count row r ⌝ }
 {
@@ -72,6 +72,34 @@ pub fn find(rows: &[u32], index: &[u16; LENGTH], m: u32, count: u32, row: Words)
         return n;
     }
     if count <= PLACES {
+        return 0;
+    }
+    if PLACES <= m {
+        return rows::find(rows, m, count, row);
+    }
+    rows::find(rows, PLACES, count, row)
+}
+
+// What `find` answers, in a function of its own for test 8: the compiler puts a function into its caller as long as it has
+// no other, and a check makes rows all the time.
+pub fn find_twin(rows: &[u32], index: &[u16; LENGTH], m: u32, count: u32, row: Words) -> u32
+    requires { ⌜ RowsIndexed (now rows) count (now index) ⌝ }
+    requires { ⌜ (m ≤ count) × (rowWidth * count ≤ length (now rows)) × Distinct (now rows) count ⌝ }
+    ensures { λ r. ⌜ Found (old rows) m count row r ⌝ }
+{
+    let mut n = index[bucket_of(row)] as u32;
+    let mut left = STEPS;
+    while m < n {
+        if alike(row_at(rows, n), row) {
+            return n;
+        }
+        if left == 0 {
+            return rows::find(rows, m, count, row);
+        }
+        left -= 1;
+        n = index[HEADS + (n as usize) - 1] as u32;
+    }
+    if PLACES >= count {
         return 0;
     }
     if PLACES <= m {

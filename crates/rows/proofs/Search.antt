@@ -47,14 +47,14 @@ module _ (w : List ℕ) (key : Key) where
       go i l h false f = b .none i (leb-false i n f) h
 
   -- The rows past row n: the word at `at` is that of row n + 1 + j
-  word-at : (n j at : ℕ) → at ≡ 4 * n + key .place + 4 * j → getD w (rowWidth * (n + 1 + j) - rowWidth + key .place) 0 ≡ getD w at 0
+  word-at : (n j at : ℕ) → at ≡ rowWidth * n + key .place + rowWidth * j → getD w (rowWidth * (n + 1 + j) - rowWidth + key .place) 0 ≡ getD w at 0
   word-at n j at e = ap (λ (x : ℕ). getD w x 0) (omega arith)
 
-  pub one-of-four : (n j at : ℕ) → getD w at 0 ≡ key .word → j < 4 → at ≡ 4 * n + key .place + 4 * j → Decides (NoneWith w key n (n + 4)) false
+  pub one-of-four : (n j at : ℕ) → getD w at 0 ≡ key .word → j < 4 → at ≡ rowWidth * n + key .place + rowWidth * j → Decides (NoneWith w key n (n + 4)) false
   one-of-four n j at e h q = fails (λ s. s .none (n + 1 + j) (omega arith) (omega arith) (word-at n j at q ∙ e))
 
   pub none-of-four : (n a b c d : ℕ) → (getD w a 0 ≡ key .word → ⊥) → (getD w b 0 ≡ key .word → ⊥) → (getD w c 0 ≡ key .word → ⊥) → (getD w d 0 ≡ key .word → ⊥)
-      → a ≡ 4 * n + key .place + 4 * 0 → b ≡ 4 * n + key .place + 4 * 1 → c ≡ 4 * n + key .place + 4 * 2 → d ≡ 4 * n + key .place + 4 * 3
+      → a ≡ rowWidth * n + key .place + rowWidth * 0 → b ≡ rowWidth * n + key .place + rowWidth * 1 → c ≡ rowWidth * n + key .place + rowWidth * 2 → d ≡ rowWidth * n + key .place + rowWidth * 3
       → Decides (NoneWith w key n (n + 4)) true
   none-of-four n a b c d na nb nc nd ea eb ec ed =
       let one = none-more n n (none-none n) (new 0 (n + 1) a ea (omega arith) na) in
@@ -63,7 +63,7 @@ module _ (w : List ℕ) (key : Key) where
       let four = none-more n (n + 1 + 1 + 1) three (new 3 (n + 1 + 1 + 1 + 1) d ed (omega arith) nd) in
       holds (record { none = λ i l h. four .none i l (omega arith) })
     where
-      new : (j i at : ℕ) → at ≡ 4 * n + key .place + 4 * j → i ≡ n + 1 + j → (getD w at 0 ≡ key .word → ⊥) → HasKey w key i → ⊥
+      new : (j i at : ℕ) → at ≡ rowWidth * n + key .place + rowWidth * j → i ≡ n + 1 + j → (getD w at 0 ≡ key .word → ⊥) → HasKey w key i → ⊥
       new j i at e q not-at h = not-at (sym (word-at n j at e) ∙ ap (λ (x : ℕ). getD w (rowWidth * x - rowWidth + key .place) 0) (sym q) ∙ h)
 
   -- Rows skipped, four at a time
@@ -75,11 +75,11 @@ module _ (w : List ℕ) (key : Key) where
       record { low = omega (arith, s .low); high = omega (arith, s .high); none = none-on m n (n + 4) (s .none) (d .yes (not-false b f)) }
 
   -- Then one at a time
-  pub skipped-one : (m count n at : ℕ) → Skipped w m count key n → n < count → (getD w at 0 ≡ key .word → ⊥) → at ≡ 4 * n + key .place → Skipped w m count key (n + 1)
+  pub skipped-one : (m count n at : ℕ) → Skipped w m count key n → n < count → (getD w at 0 ≡ key .word → ⊥) → at ≡ rowWidth * n + key .place → Skipped w m count key (n + 1)
   skipped-one m count n at s h not-at e =
       record { low = omega (arith, s .low); high = omega arith; none = none-more m n (s .none) (λ q. not-at (ap (λ (x : ℕ). getD w x 0) (omega arith) ∙ q)) }
 
-  pub next-here : (m count n at : ℕ) → Skipped w m count key n → n < count → getD w at 0 ≡ key .word → at ≡ 4 * n + key .place → NextWith w m count key (n + 1)
+  pub next-here : (m count n at : ℕ) → Skipped w m count key n → n < count → getD w at 0 ≡ key .word → at ≡ rowWidth * n + key .place → NextWith w m count key (n + 1)
   next-here m count n at s h q e =
       record {
         high = omega arith;

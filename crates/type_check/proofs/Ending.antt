@@ -9,7 +9,7 @@ use lib.ListN.{length, getD, drop, replicate, length-drop, List·getD-append}
 use lib.Seq.{getD-drop, ext-getD}
 use borrow.Author.Tests.{ltb-false, lt-ltb}
 use Rattle.types.specs.Ty.{same, member, distinctCount}
-use Rattle.types.specs.Table.{rowWidth, Table}
+use Rattle.types.specs.Table.{rowWidth, fixedLength, Table}
 use Rattle.types.specs.Post.{FixedStored}
 use Rattle.fallible.specs.Errors.{errorWidth, errorList, room}
 use Rattle.shape.specs.declared.Holds.the-variants.{Items}
@@ -182,7 +182,7 @@ seven input =
     subst (λ (e : Effect). 7 ≤ distinctCount (needed e)) (nothing-then (moduleEffect input))
     (count-within (needed nothing) (needed (nothing then moduleEffect input)) (needed-within nothing (moduleEffect input)))
 
-pub no-room : (input output rows errors work : List ℕ) → length rows < 28 → BothPasses input (buffers output rows errors work) (buffers output rows errors work) (record { errors = 0; rows = 0; full = true })
+pub no-room : (input output rows errors work : List ℕ) → length rows < fixedLength → BothPasses input (buffers output rows errors work) (buffers output rows errors work) (record { errors = 0; rows = 0; full = true })
 no-room input output rows errors work l =
     record {
       lengths = refl;

@@ -11,9 +11,9 @@ use lib.ListN.{length, getD, set, length-set}
 use lib.Seq.{getD-set-same, getD-set-other}
 use Rattle.row_index.specs.Index.{withRow, withRows}
 use Rattle.row_index.proofs.Additions.{rows-none, rows-more}
-use Rattle.types.specs.Table.{Words, words, rowAt, build, unfolded, hasType, Table, RowOk, Extends}
+use Rattle.types.specs.Table.{rowWidth, Words, words, rowAt, build, unfolded, hasType, Table, RowOk, Extends}
 use Rattle.types.specs.Post.{Added, Found, highestPart, stored}
-use Rattle.types.proofs.Laws.{unfolded-row, build-below, words-injective, first-at-most, second-at-most, first-lower, second-lower}
+use Rattle.types.proofs.Laws.{unfolded-row, build-below, words-injective, first-at-most, second-at-most}
 use Rattle.types.proofs.Grow.{Kept, kept-row, kept-unfolded, kept-ok}
 use Rattle.types.proofs.Rows.{Rows, rows-add}
 use Rattle.types.proofs.Set.{has-none, added-last}
@@ -23,48 +23,48 @@ pub new-type : (w : List ℕ) (c : ℕ) (r : Words) → Table w c → RowOk w c 
 new-type w c r t ok none = has-none w c (build r (unfolded w)) (λ n l h e. none n l h (words-injective w c t n l h r ok e))
 
 module _ (w : List ℕ) (c : ℕ) (r : Words) where
-  stored-other : (i : ℕ) → (i < 4 * c) ⊎ (4 * c + 4 ≤ i) → getD (stored w c r) i 0 ≡ getD w i 0
+  stored-other : (i : ℕ) → (i < rowWidth * c) ⊎ (rowWidth * c + rowWidth ≤ i) → getD (stored w c r) i 0 ≡ getD w i 0
   stored-other i h =
-      let n0 : i ≡ 4 * c → ⊥ = λ e. apart 0 (omega arith) (omega arith) in
+      let n0 : i ≡ rowWidth * c → ⊥ = λ e. apart 0 (omega arith) (omega arith) in
       let n1 = apart 1 (omega arith) in
       let n2 = apart 2 (omega arith) in
       let n3 = apart 3 (omega arith) in
       simp (getD-set-other, n0, n1, n2, n3)
     where
-      apart : (k : ℕ) → k < 4 → i ≡ 4 * c + k → ⊥
-      apart k l e = ⊎-elim (λ (b : i < 4 * c). omega arith) (λ (b : 4 * c + 4 ≤ i). omega arith) h
+      apart : (k : ℕ) → k < rowWidth → i ≡ rowWidth * c + k → ⊥
+      apart k l e = ⊎-elim (λ (b : i < rowWidth * c). omega arith) (λ (b : rowWidth * c + rowWidth ≤ i). omega arith) h
 
-  module _ (room : 4 * c + 4 ≤ length w) where
+  module _ (room : rowWidth * c + rowWidth ≤ length w) where
     pub stored-row : rowAt (stored w c r) (c + 1) ≡ r
     stored-row =
-        let e : 4 * (c + 1) - 4 ≡ 4 * c = omega arith in
+        let e : rowWidth * (c + 1) - rowWidth ≡ rowWidth * c = omega arith in
         let at : ℕ → ℕ → ℕ = λ b k. getD (stored w c r) (b + k) 0 in
         ap (λ (b : ℕ). words (getD (stored w c r) b 0) (at b 1) (at b 2) (at b 3)) e ∙ (λ i. record { kind = kind i; first = first i; second = second i; name = name i })
       where
-        kind : getD (stored w c r) (4 * c) 0 ≡ r .kind
+        kind : getD (stored w c r) (rowWidth * c) 0 ≡ r .kind
         kind =
-            let n1 : 4 * c ≡ 4 * c + 1 → ⊥ = omega arith in
-            let n2 : 4 * c ≡ 4 * c + 2 → ⊥ = omega arith in
-            let n3 : 4 * c ≡ 4 * c + 3 → ⊥ = omega arith in
-            let l : 4 * c < length w = omega arith in
+            let n1 : rowWidth * c ≡ rowWidth * c + 1 → ⊥ = omega arith in
+            let n2 : rowWidth * c ≡ rowWidth * c + 2 → ⊥ = omega arith in
+            let n3 : rowWidth * c ≡ rowWidth * c + 3 → ⊥ = omega arith in
+            let l : rowWidth * c < length w = omega arith in
             simp (getD-set-other, getD-set-same, n1, n2, n3, l)
 
-        first : getD (stored w c r) (4 * c + 1) 0 ≡ r .first
+        first : getD (stored w c r) (rowWidth * c + 1) 0 ≡ r .first
         first =
-            let n2 : 4 * c + 1 ≡ 4 * c + 2 → ⊥ = omega arith in
-            let n3 : 4 * c + 1 ≡ 4 * c + 3 → ⊥ = omega arith in
-            let l : 4 * c + 1 < length (set w (4 * c) (r .kind)) = simp length-set (omega arith) in
+            let n2 : rowWidth * c + 1 ≡ rowWidth * c + 2 → ⊥ = omega arith in
+            let n3 : rowWidth * c + 1 ≡ rowWidth * c + 3 → ⊥ = omega arith in
+            let l : rowWidth * c + 1 < length (set w (rowWidth * c) (r .kind)) = simp length-set (omega arith) in
             simp (getD-set-other, getD-set-same, n2, n3, l)
 
-        second : getD (stored w c r) (4 * c + 2) 0 ≡ r .second
+        second : getD (stored w c r) (rowWidth * c + 2) 0 ≡ r .second
         second =
-            let n3 : 4 * c + 2 ≡ 4 * c + 3 → ⊥ = omega arith in
-            let l : 4 * c + 2 < length (set (set w (4 * c) (r .kind)) (4 * c + 1) (r .first)) = simp length-set (omega arith) in
+            let n3 : rowWidth * c + 2 ≡ rowWidth * c + 3 → ⊥ = omega arith in
+            let l : rowWidth * c + 2 < length (set (set w (rowWidth * c) (r .kind)) (rowWidth * c + 1) (r .first)) = simp length-set (omega arith) in
             simp (getD-set-other, getD-set-same, n3, l)
 
-        name : getD (stored w c r) (4 * c + 3) 0 ≡ r .name
+        name : getD (stored w c r) (rowWidth * c + 3) 0 ≡ r .name
         name =
-            let l : 4 * c + 3 < length (set (set (set w (4 * c) (r .kind)) (4 * c + 1) (r .first)) (4 * c + 2) (r .second)) = simp length-set (omega arith) in
+            let l : rowWidth * c + 3 < length (set (set (set w (rowWidth * c) (r .kind)) (rowWidth * c + 1) (r .first)) (rowWidth * c + 2) (r .second)) = simp length-set (omega arith) in
             simp (getD-set-same, l)
 
     kept : Kept w (stored w c r) c
@@ -135,13 +135,11 @@ highest-low w c r ok =
     (λ (e : (highestPart r ≡ r .second) × (r .kind ≡ 7 → ⊥)). subst (λ (x : ℕ). x ≤ c) (sym (e .0)) (second-at-most w c r ok (e .1)))
     (highest r)
 
-highest-lower : (w : List ℕ) (c : ℕ) → Table w c → (i : ℕ) → 1 ≤ i → i ≤ c → highestPart (rowAt w i) < i
-highest-lower w c t i l h =
-    ⊎-elim
-    (λ (e : highestPart (rowAt w i) ≡ rowAt w i .first). subst (λ (x : ℕ). x < i) (sym e) (first-lower w c t i l h))
-    (λ (e : (highestPart (rowAt w i) ≡ rowAt w i .second) × (rowAt w i .kind ≡ 7 → ⊥)). subst (λ (x : ℕ). x < i) (sym (e .0)) (second-lower w c t i l h (e .1)))
-    (highest (rowAt w i))
-
 -- So a search past them finds every row of these words
-pub none-like : (w : List ℕ) (c : ℕ) → Table w c → (r : Words) (n : ℕ) → Found w (highestPart r) c r n → n ≡ 0 → (i : ℕ) → 1 ≤ i → i ≤ c → rowAt w i ≡ r → ⊥
-none-like w c t r n f z i l h q = f .absent z i (subst (λ (x : Words). highestPart x < i) q (highest-lower w c t i l h)) h q
+pub none-like : (w : List ℕ) (c : ℕ) → ((i : ℕ) → i < c → RowOk w i (rowAt w (i + 1))) → (r : Words) (n : ℕ) → Found w (highestPart r) c r n → n ≡ 0
+    → (i : ℕ) → 1 ≤ i → i ≤ c → rowAt w i ≡ r → ⊥
+none-like w c ok r n f z i l h q =
+    let e : i - 1 + 1 ≡ i = omega arith in
+    let own : RowOk w (i - 1) r = subst (RowOk w (i - 1)) (ap (rowAt w) e ∙ q) (ok (i - 1) (omega arith)) in
+    let p = highest-low w (i - 1) r own in
+    f .absent z i (omega arith) h q

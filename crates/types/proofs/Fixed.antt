@@ -12,7 +12,7 @@ use lib.Dec.{eqb}
 use lib.ListN.{length, getD, set, length-set}
 use lib.Seq.{getD-set-same, getD-set-other}
 use Rattle.types.specs.Ty.{Ty, member, fixedTypes, unknown, void, bool, u16, i16, pointer, string}
-use Rattle.types.specs.Table.{Words, words, rowAt, fixedWords, unfolded, upTo, hasType, Table, RowOk, IsType}
+use Rattle.types.specs.Table.{Words, words, rowAt, fixedLength, fixedWords, unfolded, upTo, hasType, Table, RowOk, IsType}
 use Rattle.types.specs.Post.{FixedStored}
 use Rattle.types.proofs.Grow.{Kept, kept-unfolded, kept-types, kept-type, kept-table}
 use Rattle.types.proofs.Query.{type-wider}
@@ -94,7 +94,7 @@ fixed-words =
       distinct = λ i j li hi lj hj e. sym (number i li hi) ∙ ap (λ (r : Words). numberOf (r .kind)) e ∙ number j lj hj;
     }
 
-pub fixed-table : (w : List ℕ) → 28 ≤ length w → Kept fixedWords w 7 → Table w 7
+pub fixed-table : (w : List ℕ) → fixedLength ≤ length w → Kept fixedWords w 7 → Table w 7
 fixed-table w room kept = kept-table fixedWords w 7 kept room fixed-words
 
 pub fixed-types : (w : List ℕ) → Kept fixedWords w 7 → (t : Ty) → hasType w 7 t ≡ member t fixedTypes
@@ -166,7 +166,7 @@ module _ (w : List ℕ) (i : ℕ) (w′ : List ℕ) (s : Copied w i w′) where
         past = λ k h. let ne : k ≡ i → ⊥ = omega arith in getD-set-other w′ i k (getD fixedWords i 0) 0 ne ∙ s .past k (omega arith);
       }
 
-  pub copied-all : 28 ≤ length w → 28 ≤ i → i ≤ 28 → FixedStored w w′
+  pub copied-all : fixedLength ≤ length w → fixedLength ≤ i → i ≤ fixedLength → FixedStored w w′
   copied-all room l h =
       let kept : Kept fixedWords w′ 7 = λ k b. s .done k (omega arith) in
       record {

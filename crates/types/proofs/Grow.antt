@@ -22,10 +22,10 @@ Kept w w′ count = (i : ℕ) → i < rowWidth * count → getD w′ i 0 ≡ get
 module _ (w w′ : List ℕ) (count : ℕ) (kept : Kept w w′ count) where
   pub kept-row : (n : ℕ) → 1 ≤ n → n ≤ count → rowAt w′ n ≡ rowAt w n
   kept-row n l h =
-      let k = kept (4 * n - 4) (omega arith) in
-      let f = kept (4 * n - 4 + 1) (omega arith) in
-      let s = kept (4 * n - 4 + 2) (omega arith) in
-      let m = kept (4 * n - 4 + 3) (omega arith) in
+      let k = kept (rowWidth * n - rowWidth) (omega arith) in
+      let f = kept (rowWidth * n - rowWidth + 1) (omega arith) in
+      let s = kept (rowWidth * n - rowWidth + 2) (omega arith) in
+      let m = kept (rowWidth * n - rowWidth + 3) (omega arith) in
       λ i. record { kind = k i; first = f i; second = s i; name = m i }
 
   kept-upTo : (m : ℕ) → m ≤ count → upTo w′ m ≡ upTo w m

@@ -7,7 +7,7 @@ use native.Mathlib.Omega.{arith}
 use lib.ListN.{length}
 use Rattle.types.specs.Ty.{Ty, end, node}
 use Rattle.row_index.specs.Index.{withRow, withRows}
-use Rattle.types.specs.Table.{Words, rowAt, build, unfolded, hasType, Table, RowOk, IsType, IsCell, NameOk}
+use Rattle.types.specs.Table.{rowWidth, Words, rowAt, build, unfolded, hasType, Table, RowOk, IsType, IsCell, NameOk}
 use Rattle.types.specs.Post.{typeOfRow, wordsOf, PartsOk, Sort, Added, NoRoom, Found, highestPart, stored}
 use Rattle.types.specs.declared.Row.{Row}
 use Rattle.types.specs.declared.Row.the-variants.{Pointer, Array, Struct, Function, Alias, DistinctAlias, Field, Argument}
@@ -94,20 +94,20 @@ module _ {w : List ℕ} {c : ℕ} {row : Row} {r : Words} {m n : ℕ} (s : Sough
         words-sort w c n l h row (e ∙ s .words),
       )
 
-  pub intern-linked : 4 * (c + 1) ≤ length w → {w′ : List ℕ} → w′ ≡ stored w c r → (b : List ℕ) {b′ : List ℕ} → b′ ≡ withRow b (c + 1) r → b′ ≡ withRows b w′ c (c + 1)
+  pub intern-linked : rowWidth * (c + 1) ≤ length w → {w′ : List ℕ} → w′ ≡ stored w c r → (b : List ℕ) {b′ : List ℕ} → b′ ≡ withRow b (c + 1) r → b′ ≡ withRows b w′ c (c + 1)
   intern-linked room = stored-linked w c r (omega arith)
 
   module _ (z : n ≡ 0) where
     none : (i : ℕ) → 1 ≤ i → i ≤ c → rowAt w i ≡ r → ⊥
-    none = none-like w c (s .table) r n (subst (λ (x : ℕ). Found w x c r n) (s .highest) (s .found)) z
+    none = none-like w c (s .table .rows) r n (subst (λ (x : ℕ). Found w x c r n) (s .highest) (s .found)) z
 
-    pub intern-full : (length w < 4 * (c + 1)) ⊎ (2 ^ 32 ≤ c + 1) → NoRoom w c (typeOfRow row (unfolded w)) w
+    pub intern-full : (length w < rowWidth * (c + 1)) ⊎ (2 ^ 32 ≤ c + 1) → NoRoom w c (typeOfRow row (unfolded w)) w
     intern-full full = record { kept = refl; absent = ap (hasType w c) (sym built) ∙ new-type w c r (s .table) ok none; full = full }
 
-    pub intern-new : c + 1 < 2 ^ 32 → 4 * (c + 1) ≤ length w → {w′ : List ℕ} → w′ ≡ stored w c r
+    pub intern-new : c + 1 < 2 ^ 32 → rowWidth * (c + 1) ≤ length w → {w′ : List ℕ} → w′ ≡ stored w c r
         → Added w c (typeOfRow row (unfolded w)) w′ (c + 1) (c + 1) × Sort w′ (c + 1) row (c + 1)
     intern-new small room {w′} e =
-        let space : 4 * c + 4 ≤ length w = omega arith in
+        let space : rowWidth * c + rowWidth ≤ length w = omega arith in
         let added = added-stored w c r space (s .table) ok small none in (
           subst (λ (x : List ℕ). Added w c (typeOfRow row (unfolded w)) x (c + 1) (c + 1)) (sym e) (subst (λ (u : Ty). Added w c u (stored w c r) (c + 1) (c + 1)) built added),
           words-sort w′ (c + 1) (c + 1) (omega arith) (omega arith) row (ap (λ (x : List ℕ). rowAt x (c + 1)) e ∙ stored-row w c r space ∙ s .words),

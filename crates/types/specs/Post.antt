@@ -10,7 +10,7 @@ use lib.ListN.{length, getD}
 use Rattle.types.specs.Ty.{Ty, same, member, fixedTypes, kindOf, pointer, array, struct, function, alias}
 use Rattle.types.specs.Ty.{distinct, field, argument, pointerKind, arrayKind, structKind, functionKind, aliasKind}
 use Rattle.types.specs.Ty.{distinctKind, fieldKind, argumentKind, stringName}
-use Rattle.types.specs.Table.{Words, words, rowWidth, fixedCount, unfolded, hasType, Table, Extends}
+use Rattle.types.specs.Table.{Words, words, rowWidth, fixedCount, fixedLength, unfolded, hasType, Table, Extends}
 use Rattle.types.specs.Table.{IsType, IsCell}
 pub use Rattle.rows.specs.Row.{stored}
 pub use Rattle.rows.specs.Search.{Found}
@@ -95,7 +95,7 @@ pub record FixedStored (w w′ : List ℕ) : Type 0 where
   pub table : Table w′ fixedCount
   pub types : (t : Ty) → hasType w′ fixedCount t ≡ member t fixedTypes
   pub long : length w′ ≡ length w
-  pub past : (i : ℕ) → rowWidth * fixedCount ≤ i → getD w′ i 0 ≡ getD w i 0
+  pub past : (i : ℕ) → fixedLength ≤ i → getD w′ i 0 ≡ getD w i 0
 
 -- r is a type row below n that unfolds to t
 pub record TypePart (w : List ℕ) (count n : ℕ) (t : Ty) (r : ℕ) : Type 0 where

@@ -83,6 +83,10 @@ pub record RowOk (w : List ℕ) (m : ℕ) (r : Words) : Type 0 where
 abbrev pub fixedCount : ℕ
 fixedCount = 7
 
+-- How many words they have
+abbrev pub fixedLength : ℕ
+fixedLength = rowWidth * fixedCount
+
 -- Their words: Unknown, void, bool, u16, i16, pointer to u16 (row 4), and String, a distinct alias of row 6
 abbrev pub fixedWords : List ℕ
 fixedWords =
@@ -97,7 +101,7 @@ fixedWords =
 
 -- w begins with them
 abbrev pub FixedRows : List ℕ → Type 0
-FixedRows w = (i : ℕ) → i < rowWidth * fixedCount → getD w i 0 ≡ getD fixedWords i 0
+FixedRows w = (i : ℕ) → i < fixedLength → getD w i 0 ≡ getD fixedWords i 0
 
 -- The first `count` rows of w obey the rules; the count is a u32
 pub record Table (w : List ℕ) (count : ℕ) : Type 0 where

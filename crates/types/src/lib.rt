@@ -8,18 +8,18 @@ ghost use mathlib.Core.Path.{_≡_};
 ghost use Prim.Native.Nat.{_+_, _*_, _≤_, _<_};
 ghost use lib.ListN.{length};
 ghost use Rattle.contract.specs.Moments.{old, final};
-ghost use Rattle.row_index.specs.Index.{Indexed, withRows};
+ghost use Rattle.row_index.specs.Index.{RowsIndexed, withRows};
 ghost use Rattle.types.specs.Ty.{kindOf, firstOf, secondOf, sizeOf, nameOf, desugar as desugared, removeAliasing};
 ghost use Rattle.types.specs.Ty.{cellCount, fieldNamed, arrayKind, structKind, functionKind, fieldKind};
 ghost use Rattle.types.specs.Ty.{argumentKind};
-ghost use Rattle.types.specs.Table.{rowWidth, fixedCount, unfolded, Table, IsType, IsList};
+ghost use Rattle.types.specs.Table.{fixedLength, unfolded, Table, IsType, IsList};
 ghost use Rattle.types.specs.Post.{wordsOf, highestPart, PartsOk, InternPost, countAfter, FixedStored};
 ghost use Rattle.types.specs.Post.{HasTypePart, TypePart, CellPart, FoundType};
 
 // The rows that every table begins with, and their words.
 pub const FIXED_COUNT: u32 = 7;
 
-pub const FIXED_LENGTH: usize = 28;
+pub const FIXED_LENGTH: usize = ROW_WIDTH * (FIXED_COUNT as usize);
 
 // The row of String; that of another built-in type has the number of its kind.
 pub const STRING: u32 = 7;
@@ -258,7 +258,7 @@ fn words_of(row: Row) -> Words
 }
 
 // The highest row that a row points to, or 0.
-fn highest_part(row: Words) -> u32
+pub fn highest_part(row: Words) -> u32
     ensures { λ r. ⌜ r ≡ highestPart row ⌝ }
 {
     if row.kind == ARRAY {
@@ -279,7 +279,7 @@ pub fn intern(
     row: Row,
 ) -> Interned
     requires { ⌜ Table (now rows) count × PartsOk (now rows) count row ⌝ }
-    requires { ⌜ Indexed (now rows) count (now index) ⌝ }
+    requires { ⌜ RowsIndexed (now rows) count (now index) ⌝ }
     ensures { λ r. ⌜ InternPost (old rows) count row (final rows) r ⌝ }
     ensures { λ r. ⌜ final index ≡ withRows (old index) (final rows) count (countAfter count r) ⌝ }
 {
@@ -305,7 +305,7 @@ pub fn intern(
 
 // Stores the fixed rows.
 pub fn put_fixed_rows(rows: &mut [u32])
-    requires { ⌜ rowWidth * fixedCount ≤ length (now rows) ⌝ }
+    requires { ⌜ fixedLength ≤ length (now rows) ⌝ }
     ensures { λ _. ⌜ FixedStored (old rows) (final rows) ⌝ }
 {
     let mut i = 0;

@@ -1,7 +1,6 @@
 // Whether rows that somebody lends keep the rules of a table (document 01, "Type rows").
 use rows::ROW_WIDTH;
 use rows::Words;
-use rows::find;
 use rows::row_at;
 use types::ALIAS;
 use types::ARGUMENT;
@@ -17,13 +16,14 @@ use types::PartKind;
 use types::STRING_NAME;
 use types::STRUCT;
 use types::UNKNOWN;
+use types::highest_part;
 ghost use mathlib.Core.Path.{_≡_};
 ghost use Prim.Native.Nat.{_+_, _*_, _^_, _≤_, _<_};
 ghost use lib.ListN.{length};
 ghost use Rattle.contract.specs.Moments.{old};
 ghost use Rattle.rows.specs.Row.{rowWidth};
 ghost use Rattle.rows.specs.Search.{Decides};
-ghost use Rattle.types.specs.Table.{fixedCount, FixedRows, firstPart, secondPart, Table, RowOk, PartOk, NameOk, IsType};
+ghost use Rattle.types.specs.Table.{fixedLength, FixedRows, firstPart, secondPart, Table, RowOk, PartOk, NameOk, IsType};
 ghost use Rattle.types.specs.Table.{IsCell};
 
 // Whether v is a type row among the rows 1 to m.
@@ -136,7 +136,7 @@ fn is_row(rows: &[u32], m: u32, row: Words) -> bool
 
 // Whether the table begins with the fixed rows.
 fn has_fixed_rows(rows: &[u32]) -> bool
-    requires { ⌜ rowWidth * fixedCount ≤ length (now rows) ⌝ }
+    requires { ⌜ fixedLength ≤ length (now rows) ⌝ }
     ensures { λ r. ⌜ Decides (FixedRows (old rows)) r ⌝ }
 {
     let mut i = 0;
@@ -162,15 +162,18 @@ pub fn is_table(rows: &[u32], count: u32) -> bool
     if !has_fixed_rows(rows) {
         return false;
     }
+    let mut index = [0u16; row_index::LENGTH];
     let mut m: u32 = 0;
     while m < count {
         let row = row_at(rows, m + 1);
         if !is_row(rows, m, row) {
             return false;
         }
-        if find(rows, 0, m, row) != 0 {
+        let below = highest_part(row);
+        if row_index::find_twin(rows, &index, below, m, row) != 0 {
             return false;
         }
+        row_index::link(&mut index, m + 1, row);
         m += 1;
     }
     true

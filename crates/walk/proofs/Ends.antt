@@ -10,7 +10,7 @@ use lib.Dec.{ltb}
 use lib.ListN.{length, getD}
 use borrow.Author.Tests.{lt-ltb, le-ltb, ltb-true, ltb-false}
 use Rattle.types.specs.Ty.{distinctCount}
-use Rattle.types.specs.Table.{Table, IsType}
+use Rattle.types.specs.Table.{rowWidth, Table, IsType}
 use Rattle.types.specs.Post.{FixedStored}
 use Rattle.types.proofs.Count.{row-count}
 use Rattle.fallible.specs.declared.Error.{Error}
@@ -52,14 +52,14 @@ module _ {o e : List ℕ} {C : Lent} (effect : Effect) (tb : Table (C .rows) (C 
   end-rows p = row-count (C .rows) (C .state .rows) (needed effect) (h .fits p .types) tb
 
   -- Refusal 6: a row found no room exactly if there are more rows needed than whole rows lent
-  pub end-full : effect .steps + 8 < 2 ^ 32 → ltb (length (C .rows)) (4 * distinctCount (needed effect)) ≡ C .state .full
+  pub end-full : effect .steps + 8 < 2 ^ 32 → ltb (length (C .rows)) (rowWidth * distinctCount (needed effect)) ≡ C .state .full
   end-full few = go (C .state .full) refl
     where
-      go : (b : Bool) → C .state .full ≡ b → ltb (length (C .rows)) (4 * distinctCount (needed effect)) ≡ b
-      go false p = le-ltb (length (C .rows)) (4 * distinctCount (needed effect)) (omega (arith, end-rows p, tb .room))
+      go : (b : Bool) → C .state .full ≡ b → ltb (length (C .rows)) (rowWidth * distinctCount (needed effect)) ≡ b
+      go false p = le-ltb (length (C .rows)) (rowWidth * distinctCount (needed effect)) (omega (arith, end-rows p, tb .room))
       go true p =
-          lt-ltb (length (C .rows)) (4 * distinctCount (needed effect))
-          (⊎-elim (λ (q : length (C .rows) < 4 * distinctCount (needed effect)). q) (λ (q : 2 ^ 32 ≤ 7 + effect .steps + 1). absurd (omega arith)) (h .lacks p))
+          lt-ltb (length (C .rows)) (rowWidth * distinctCount (needed effect))
+          (⊎-elim (λ (q : length (C .rows) < rowWidth * distinctCount (needed effect)). q) (λ (q : 2 ^ 32 ≤ 7 + effect .steps + 1). absurd (omega arith)) (h .lacks p))
 
 -- The errors
 

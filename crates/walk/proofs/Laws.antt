@@ -10,7 +10,7 @@ use native.Mathlib.Omega.{arith}
 use lib.ListN.{length, getD}
 use lib.Seq.{length-sets}
 use Rattle.types.specs.Ty.{Ty, member, distinctCount, parts, fixedTypes}
-use Rattle.types.specs.Table.{hasType, Table, Extends, IsType}
+use Rattle.types.specs.Table.{rowWidth, hasType, Table, Extends, IsType}
 use Rattle.types.proofs.Grow.{extends-refl, extends-trans, extends-unfolded, extends-type, extends-cell, extends-linked}
 use Rattle.types.proofs.Parts.{member-append}
 use Rattle.row_index.specs.Index.{Indexed}
@@ -196,7 +196,7 @@ needed-within a b t p = needed-then t a b ∙ ap (λ (x : Bool). x || member t (
 pub too-many-then : (n : ℕ) (a b : Effect) → TooMany n a → TooMany n (a then b)
 too-many-then n a b h =
     let c = count-within (needed a) (needed (a then b)) (needed-within a b) in
-    ⊎-elim (λ (p : n < 4 * distinctCount (needed a)). inl (omega arith)) (λ (p : 2 ^ 32 ≤ 7 + a .steps + 1). inr (omega arith)) h
+    ⊎-elim (λ (p : n < rowWidth * distinctCount (needed a)). inl (omega arith)) (λ (p : 2 ^ 32 ≤ 7 + a .steps + 1). inr (omega arith)) h
 
 shown-needed : (a b : Effect) → Shown a b → (t : Ty) → member t (needed a) ≡ member t (needed b)
 unfolding needed
@@ -228,7 +228,7 @@ represents-as {o} {e} {C} a b s h =
           };
       lacks = λ p.
           let c = count-same (needed a) (needed b) (shown-needed a b s) in
-          ⊎-elim (λ (q : length (C .rows) < 4 * distinctCount (needed a)). inl (omega arith)) (λ (q : 2 ^ 32 ≤ 7 + a .steps + 1). inr (omega (arith, s .steps))) (h .lacks p);
+          ⊎-elim (λ (q : length (C .rows) < rowWidth * distinctCount (needed a)). inl (omega arith)) (λ (q : 2 ^ 32 ≤ 7 + a .steps + 1). inr (omega (arith, s .steps))) (h .lacks p);
     }
 
 -- Doing

@@ -7,13 +7,13 @@ use mathlib.Core.Logic.{_⊎_, inl, inr, ⊎-elim}
 use native.Mathlib.Omega.{arith}
 use lib.ListN.{length}
 use Rattle.types.specs.Ty.{Ty, member, parts}
-use Rattle.types.specs.Table.{unfolded, hasType, Table, IsType, IsCell}
+use Rattle.types.specs.Table.{rowWidth, unfolded, hasType, Table, IsType, IsCell}
 use Rattle.types.specs.Post.{typeOfRow, PartsOk, Sort, Added, NoRoom, InternPost, countAfter}
 use Rattle.types.specs.declared.Row.{Row}
 use Rattle.types.specs.declared.Row.the-variants.{Pointer, Array, Struct, Function, Alias, DistinctAlias, Field, Argument}
 use Rattle.types.specs.declared.Interned.{Interned}
 use Rattle.types.specs.declared.Interned.the-variants.{At, Full}
-use Rattle.row_index.specs.Index.{Indexed, withRows}
+use Rattle.row_index.specs.Index.{withRows}
 use Rattle.row_index.proofs.Additions.{rows-none}
 use Rattle.types.proofs.Grow.{extends-refl, extends-indexed}
 use Rattle.types.proofs.Fixed.{fixed-is}
@@ -111,7 +111,7 @@ module _ (w : List ℕ) (b : List ℕ) (st : State) (row : Row) (tb : Table w (s
         let f = h .fits q in
         let after = needed (before then meeting (type ∷ []) 1) in
         let more = rows-exceeded w (st .rows) tb after (λ u k. needed-within before (meeting (type ∷ []) 1) u (sym (f .types u) ∙ k)) type (a .absent) (type-needed before) in
-        ⊎-elim (λ (p : length w < 4 * (st .rows + 1)). inl (omega arith)) (λ (p : 2 ^ 32 ≤ st .rows + 1). inr (omega (arith, f .few))) (a .full)
+        ⊎-elim (λ (p : length w < rowWidth * (st .rows + 1)). inl (omega arith)) (λ (p : 2 ^ 32 ≤ st .rows + 1). inr (omega (arith, f .few))) (a .full)
 
     full-made : Made row (lent work o e w b st) (lent work o e w′ b′ (state (st .errors) (st .rows) true)) (substituteFor row)
     full-made =

@@ -1,13 +1,15 @@
 -- `main` is safe and ends: no count is above the number of cases run. Assumes nothing.
-use Prim.Native.Nat.{_≤_, _-_}
+use Prim.Native.Nat.{_≤_, _-_, _*_}
 use mathlib.Core.Path.{_≡_}
 use lib.ListN.{length}
+use Rattle.rows.specs.Row.{rowWidth}
+use Rattle.fallible.specs.Errors.{errorWidth}
 use borrow.Author.Needs.{needs}
 use Rattle.replay.proofs.main.Statement.{statement}
 use Rattle.replay.proofs.main.Tie as tie
 
 abbrev Inv-loop : tie.InvT-loop
-Inv-loop case₀ output₀ rows₀ errors₀ work₀ buffer₀ held₀ tally₀ k₀ case output rows errors work buffer held tally k = (length case ≡ 250000) × (length output ≡ 70000) × (length rows ≡ 12000) × (length errors ≡ 14000) × (length work ≡ 16376) × (length buffer ≡ 65536) × (tally .good ≤ k) × (tally .refused ≤ k) × (tally .differ ≤ k)
+Inv-loop case₀ output₀ rows₀ errors₀ work₀ buffer₀ held₀ tally₀ k₀ case output rows errors work buffer held tally k = (length case ≡ 250000) × (length output ≡ 70000) × (length rows ≡ rowWidth * 3000) × (length errors ≡ errorWidth * 2000) × (length work ≡ 16376) × (length buffer ≡ 65536) × (tally .good ≤ k) × (tally .refused ≤ k) × (tally .differ ≤ k)
 
 abbrev μ-loop : tie.MeasureT-loop
 μ-loop case₀ output₀ rows₀ errors₀ work₀ buffer₀ held₀ tally₀ k₀ case output rows errors work buffer held tally k = 1000000 - k

@@ -1,4 +1,5 @@
 -- `types::put_fixed_rows` meets its contract. The loop: the words that were passed are stored, and no other is changed.
+use Rattle.types.specs.Table.{fixedLength}
 use Rattle.types.proofs.Fixed as fixed
 use borrow.Author.Needs.{needs}
 use Prim.Native.Nat.{_≤_, _-_}
@@ -6,10 +7,10 @@ use Rattle.types.proofs.put_fixed_rows.Statement.{statement}
 use Rattle.types.proofs.put_fixed_rows.Tie as tie
 
 abbrev Inv-loop : tie.InvT-loop
-Inv-loop rows₀ i₀ rows i = (i ≤ 28) × fixed.Copied rows₀ i rows
+Inv-loop rows₀ i₀ rows i = (i ≤ fixedLength) × fixed.Copied rows₀ i rows
 
 abbrev μ-loop : tie.MeasureT-loop
-μ-loop rows₀ i₀ rows i = 28 - i
+μ-loop rows₀ i₀ rows i = fixedLength - i
 
 loop-holds : tie.Need-loop-holds Inv-loop μ-loop
 loop-holds c = (search needs, search fixed.copied-none)

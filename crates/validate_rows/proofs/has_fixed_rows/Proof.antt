@@ -6,15 +6,15 @@ use Prim.Native.Nat.{ℕ, _≤_, _<_, _-_}
 use mathlib.Core.Path.{_≡_}
 use borrow.Author.Count.{below-none, below-more}
 use lib.ListN.{getD}
-use Rattle.types.specs.Table.{fixedWords}
+use Rattle.types.specs.Table.{fixedLength, fixedWords}
 use Rattle.validate_rows.proofs.has_fixed_rows.Statement.{statement}
 use Rattle.validate_rows.proofs.has_fixed_rows.Tie as tie
 
 abbrev Inv-loop : tie.InvT-loop
-Inv-loop rows i₀ i = (i ≤ 28) × ((k : ℕ) → k < i → getD rows k 0 ≡ getD fixedWords k 0)
+Inv-loop rows i₀ i = (i ≤ fixedLength) × ((k : ℕ) → k < i → getD rows k 0 ≡ getD fixedWords k 0)
 
 abbrev μ-loop : tie.MeasureT-loop
-μ-loop rows i₀ i = 28 - i
+μ-loop rows i₀ i = fixedLength - i
 
 loop-holds : tie.Need-loop-holds Inv-loop μ-loop
 loop-holds c = (search needs, below-none _)

@@ -1,0 +1,102 @@
+/* Measures the questions about rows, each of which validates the whole table first:  questions
+ * A line for each class of tables: its name, then for each number of rows the microseconds of one call of delta_null_assignable and of one
+ * of delta_null_word_size, the fastest of some rounds. */
+#include <stdio.h>
+#include <stdlib.h>
+#include <time.h>
+
+#include "../include/delta_null_type_check.h"
+
+enum { FIXED = 7, MOST_ROWS = 24000, ROUNDS = 40, LEAST_ROUNDS = 3 };
+enum { U16 = 4, POINTER = 6, ARRAY = 7, STRUCT = 8, ALIAS = 10, DISTINCT = 11, FIELD = 12, STRING_NAME = 65535 };
+
+/* As long as these nanoseconds, more rounds than the least are made. */
+static const double LONG = 2e8;
+
+static const uint32_t counts[] = {375, 750, 1500, 3000, 6000, 12000, 24000};
+static uint32_t rows[MOST_ROWS * DELTA_NULL_ROW_WORDS], work[MOST_ROWS], count;
+
+static uint32_t add(uint32_t kind, uint32_t first, uint32_t second, uint32_t name) {
+    uint32_t *row = rows + count++ * DELTA_NULL_ROW_WORDS;
+    row[0] = kind, row[1] = first, row[2] = second, row[3] = name;
+    return count;
+}
+
+static void add_fixed(void) {
+    count = 0;
+    for (uint32_t kind = 1; kind <= 5; kind++) add(kind, 0, 0, 0);
+    add(POINTER, U16, 0, 0);
+    add(DISTINCT, POINTER, 0, STRING_NAME);
+}
+
+/* Arrays of u16 of so many sizes. */
+static void array_sizes(uint32_t size) { add(ARRAY, U16, size, 0); }
+
+/* Arrays whose rows share one bucket of the product's index of rows. */
+static void one_bucket(uint32_t size) {
+    static uint64_t next;
+    if (size == 0) next = 0;
+    while ((ARRAY * 268435399ull + U16 * 165580141ull + next * 228826127ull) / 262144 % 512) next++;
+    add(ARRAY, U16, next++, 0);
+}
+
+/* Each a pointer to the one before. */
+static void pointers(uint32_t number) { add(POINTER, number ? count : 7, 0, 0); }
+
+/* One list of fields, all of one name. */
+static void fields_of_one_name(uint32_t number) { add(FIELD, U16, number ? count : 0, 1); }
+
+/* Aliases of u16, each of its own name. */
+static void aliases(uint32_t number) { add(ALIAS, U16, 0, number < STRING_NAME ? number + 1 : number + 2); }
+
+/* Structs of one field, each of its own name. */
+static void structs(uint32_t number) {
+    uint32_t field = add(FIELD, U16, 0, number + 1);
+    if (count < MOST_ROWS) add(STRUCT, field, 0, 0);
+}
+
+static const struct {
+    const char *name;
+    void (*add_next)(uint32_t);
+} classes[] = {
+    {"array sizes", array_sizes}, {"aliases", aliases}, {"structs", structs}, {"pointers", pointers},
+    {"fields of one name", fields_of_one_name}, {"rows of one bucket", one_bucket},
+};
+
+static double now(void) {
+    struct timespec time;
+    clock_gettime(CLOCK_MONOTONIC, &time);
+    return time.tv_sec * 1e9 + time.tv_nsec;
+}
+
+/* Microseconds of one call, with the size of u16 if it is asked, else whether u16 is assignable to u16. */
+static double fastest(int of_size) {
+    double start = now(), best = 1e18;
+    for (int round = 0; round < LEAST_ROUNDS || (round < ROUNDS && now() - start < LONG); round++) {
+        uint32_t answer, before = count * DELTA_NULL_ROW_WORDS;
+        double turn = now();
+        uint32_t refused = of_size ? delta_null_word_size(rows, before, count, U16, work, count, &answer)
+                                   : delta_null_assignable(rows, before, count, U16, U16, &answer);
+        double time = (now() - turn) / 1e3;
+        if (refused || answer != 1) {
+            fprintf(stderr, "questions: a good table is refused with %u, or the answer is %u\n", refused, answer);
+            exit(1);
+        }
+        if (time < best) best = time;
+    }
+    return best;
+}
+
+int main(void) {
+    for (size_t class = 0; class < sizeof classes / sizeof *classes; class++) {
+        printf("%s:", classes[class].name);
+        for (size_t size = 0; size < sizeof counts / sizeof *counts; size++) {
+            add_fixed();
+            for (uint32_t number = 0; count < counts[size]; number++) classes[class].add_next(number);
+            printf(" %u rows %.1f, %.1f;", count, fastest(0), fastest(1));
+            fflush(stdout);
+        }
+        printf("\n");
+    }
+    return 0;
+}
