@@ -1,5 +1,5 @@
 //! Each function, each of its refusals, and what each leaves in the parts lent.
-use delta_null_type_check::{Counts, Refused, WordSize};
+use delta_null_type_check::{Counts, ROW_WORDS, Refused, WordSize};
 use delta_null_type_check::{assignable, castable, type_check_module, word_size};
 
 const MODULE: &[u8] = include_bytes!("../../example.module");
@@ -137,6 +137,38 @@ fn relations() {
     }
     assert_eq!(assignable(&rows, COUNT + 1, 4, 4), refused(8, 0));
     assert_eq!(castable(&[], 0, 1, 1), refused(8, 0));
+}
+
+/// A table with so many rows, `[size]u16` of different sizes, whose rows share one bucket of the index of rows or not.
+fn array_table(count: usize, one_bucket: bool) -> Vec<u32> {
+    let bucket = |size: u64| (7 * 268435399 + 4 * 165580141 + size * 228826127) / 262144 % 512;
+    let sizes = (0..).filter(|&size| !one_bucket || bucket(size) == 0);
+    let mut rows = table()[..7 * ROW_WORDS].to_vec();
+    rows.extend(sizes.take(count - 7).flat_map(|size| [7, 4, size as u32, 0]));
+    rows
+}
+
+/// No two rows are alike, wherever in a long table the two stand: in the index of rows (the first 3,584), past it, or far down a bucket.
+#[test]
+fn twins() {
+    for (count, one_bucket) in
+        [(8, false), (600, false), (3584, false), (3585, false), (5000, false), (40, true), (3700, true)]
+    {
+        let mut rows = array_table(count, one_bucket);
+        assert_eq!(assignable(&rows, count as u32, 4, 4), Ok(true));
+        for number in [8, 9, 24, 26, 40, 3584, 3585, 3586, count - 1, count] {
+            if number <= count {
+                let twin = rows[(number - 1) * ROW_WORDS..][..ROW_WORDS].to_vec();
+                rows.extend(twin);
+                assert_eq!(
+                    assignable(&rows, count as u32 + 1, 4, 4),
+                    refused(8, 0),
+                    "{count} rows and row {number} again"
+                );
+                rows.truncate(count * ROW_WORDS);
+            }
+        }
+    }
 }
 
 #[test]
