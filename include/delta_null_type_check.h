@@ -28,26 +28,28 @@ extern "C" {
 #endif
 
 /* Why a call is refused. The first test that holds is answered: for a module 1 to 7 in their order, for the three questions about
- * rows 8 and then, of word_size alone, 5. */
+ * rows 8 alone. */
 enum delta_null_refusal {
     DELTA_NULL_ACCEPTED = 0,
     DELTA_NULL_TOO_LONG = 1,        /* the module has over 65,536 bytes */
     DELTA_NULL_LAYOUT_FAULT = 2,    /* the bytes break the layout; the place is that of the fault: 0 where there are 1 to 15 bytes */
     DELTA_NULL_TOO_DEEP = 3,        /* a record is due at depth 65; the place is the record's */
     DELTA_NULL_REPEATED_NAME = 4,   /* a name equals an earlier one; the place is that of the first such */
-    DELTA_NULL_SHORT_LOAN = 5,      /* the output is shorter than the input, or there are fewer than 4 working words a name;
-                                       word_size: fewer working words than rows */
+    DELTA_NULL_SHORT_LOAN = 5,      /* the output is shorter than the input, or there are fewer than 4 working words a name */
     DELTA_NULL_TOO_MANY_ROWS = 6,   /* the module has more rows than whole rows are lent */
     DELTA_NULL_TOO_MANY_ERRORS = 7, /* the module has more errors than whole errors are lent */
-    DELTA_NULL_BAD_ROWS = 8         /* the row count is past the rows lent, the rows break a rule, or a number is no type row */
+    DELTA_NULL_BAD_ROWS = 8         /* the row count is past the rows lent, the rows break a rule, that for the fifth word included,
+                                       or a number is no type row */
 };
 
-/* Words of a row and of an error, and working words of a name. */
-#define DELTA_NULL_ROW_WORDS 4
+/* Words of a row and of an error, and working words of a name. Rows and errors are lent in whole: a last part of one is not used. */
+#define DELTA_NULL_ROW_WORDS 5
 #define DELTA_NULL_ERROR_WORDS 7
 #define DELTA_NULL_NAME_WORDS 4
 
-/* Sizes that are no number of words. */
+/* A row is its kind, first, second, name and size. The size is how many words its type has, at most 65,535, or one of these. Of a field
+ * cell it is that of its type and of the cells that follow together; of an argument cell 0, or unknown if it or a cell that follows has
+ * Unknown inside. */
 #define DELTA_NULL_SIZE_TOO_LARGE 65536u /* above 65,535 words */
 #define DELTA_NULL_SIZE_UNKNOWN 65537u   /* Unknown inside, other than behind a pointer */
 
@@ -81,16 +83,11 @@ uint32_t delta_null_castable(
     const uint32_t *rows, size_t rows_length,
     uint32_t count, uint32_t source, uint32_t target, uint32_t *answer);
 
-/* How many words the type of row n has: *size is at most 65,535, or one of the two sizes above.
- * The table is the first count rows; one working word a row is lent.
- *
- * Accepted: working word i, for i below count, holds the size of row i + 1 in the same form (of a field cell, that of its type and
- * of the cells that follow together; of an argument cell 0, or 65,537 if there is Unknown inside); the others are as they were.
- * Refused with 8, else with 5: the working words are as they were, and *size is 0. */
+/* How many words the type of row n has: *size is the row's size, at most 65,535 or one of the two above.
+ * The table is the first count rows. Refused with 8 alone; then *size is 0. */
 uint32_t delta_null_word_size(
     const uint32_t *rows, size_t rows_length,
-    uint32_t count, uint32_t n,
-    uint32_t *work, size_t work_length, uint32_t *size);
+    uint32_t count, uint32_t n, uint32_t *size);
 
 #ifdef __cplusplus
 }

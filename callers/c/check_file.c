@@ -39,7 +39,7 @@ static uint32_t print_relations(uint32_t count)
     if (refused != 0) {
         return refused;
     }
-    refused = delta_null_word_size(rows, words(sizeof rows), count, VOID_ROW, work, words(sizeof work), &size);
+    refused = delta_null_word_size(rows, words(sizeof rows), count, VOID_ROW, &size);
     if (refused != 0) {
         return refused;
     }

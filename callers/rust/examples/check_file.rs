@@ -29,7 +29,7 @@ fn check(input: &[u8]) -> Result<(), Refused> {
     }
     let assignable = assignable(&rows, counts.rows, U16, I16)?;
     let castable = castable(&rows, counts.rows, I16, U16)?;
-    let words = match word_size(&rows, counts.rows, VOID, &mut work)? {
+    let words = match word_size(&rows, counts.rows, VOID)? {
         WordSize::Words(words) => words.to_string(),
         WordSize::TooLarge => "too large".to_string(),
         WordSize::Unknown => "unknown".to_string(),

@@ -11,7 +11,7 @@ use std::fmt;
 compile_error!("the static library is for x86-64 Linux");
 
 /// Words of a row, of an error, and working words of a name.
-pub const ROW_WORDS: usize = 4;
+pub const ROW_WORDS: usize = 5;
 pub const ERROR_WORDS: usize = 7;
 pub const NAME_WORDS: usize = 4;
 
@@ -54,15 +54,7 @@ unsafe extern "C" {
         answer: *mut u32,
     ) -> u32;
 
-    fn delta_null_word_size(
-        rows: *const u32,
-        rows_length: usize,
-        count: u32,
-        n: u32,
-        work: *mut u32,
-        work_length: usize,
-        size: *mut u32,
-    ) -> u32;
+    fn delta_null_word_size(rows: *const u32, rows_length: usize, count: u32, n: u32, size: *mut u32) -> u32;
 }
 
 /// How many rows and errors a module has.
@@ -147,12 +139,11 @@ pub fn castable(rows: &[u32], count: u32, source: u32, target: u32) -> Result<bo
     answer(number, 0, yes == 1)
 }
 
-/// How many words the type of row `n` has. The table is the first `count` rows; one working word a row is lent.
-pub fn word_size(rows: &[u32], count: u32, n: u32, work: &mut [u32]) -> Result<WordSize, Refused> {
+/// How many words the type of row `n` has. The table is the first `count` rows.
+pub fn word_size(rows: &[u32], count: u32, n: u32) -> Result<WordSize, Refused> {
     let mut size = 0;
-    // SAFETY: each pointer and length is of one slice, and the working words are apart from the rows.
-    let number =
-        unsafe { delta_null_word_size(rows.as_ptr(), rows.len(), count, n, work.as_mut_ptr(), work.len(), &mut size) };
+    // SAFETY: as in `assignable`.
+    let number = unsafe { delta_null_word_size(rows.as_ptr(), rows.len(), count, n, &mut size) };
     let size = match size {
         TOO_LARGE => WordSize::TooLarge,
         UNKNOWN => WordSize::Unknown,

@@ -4,7 +4,8 @@ use delta_null_type_check::{assignable, castable, type_check_module, word_size};
 
 const MODULE: &[u8] = include_bytes!("../../example.module");
 
-/// The working words of its two names, and the place of its one slot.
+/// The words of the seven rows of every table, the working words of its two names, and the place of its one slot.
+const FIXED: usize = 7 * ROW_WORDS;
 const WORK: usize = 8;
 const SLOT: usize = 104;
 
@@ -34,13 +35,13 @@ fn untouched(lent: &Lent) -> bool {
 
 #[test]
 fn module_accepted() {
-    let mut lent = lend(MODULE.len() + 1, 29, 15, WORK + 1);
+    let mut lent = lend(MODULE.len() + 1, FIXED + 1, 15, WORK + 1);
     assert_eq!(check(MODULE, &mut lent), Ok(Counts { rows: 7, errors: 2 }));
     let mut output = MODULE.to_vec();
     output[SLOT] = 1;
     output.push(9);
     assert_eq!(lent.output, output);
-    assert_eq!(lent.rows[20..], [6, 4, 0, 0, 11, 6, 0, 65535, 9]);
+    assert_eq!(lent.rows[25..], [6, 4, 0, 0, 1, 11, 6, 0, 65535, 1, 9]);
     assert_eq!(lent.errors, [1, 0, 3, 8, 1, 0, 0, 1, 0, 3, 8, 1, 0, 0, 9]);
     assert_eq!(lent.work, [0, 0, 0, 0, 0, 0, 0, 0, 9]);
 }
@@ -49,12 +50,12 @@ fn module_accepted() {
 #[test]
 fn no_bytes() {
     for (output, errors, work) in [(0, 0, 0), (1, 7, 4)] {
-        let mut lent = lend(output, 29, errors, work);
+        let mut lent = lend(output, FIXED + 1, errors, work);
         assert_eq!(check(&[], &mut lent), Ok(Counts { rows: 7, errors: 0 }));
-        assert_eq!(lent.rows[20..], [6, 4, 0, 0, 11, 6, 0, 65535, 9]);
+        assert_eq!(lent.rows[25..], [6, 4, 0, 0, 1, 11, 6, 0, 65535, 1, 9]);
         lent.rows.fill(9);
         assert!(untouched(&lent));
-        for rows in [0, 27] {
+        for rows in [0, FIXED - 1] {
             let mut lent = lend(output, rows, errors, work);
             assert_eq!(check(&[], &mut lent), refused(6, 0));
             assert!(lent.rows.iter().chain(&lent.errors).all(|&w| w == 0));
@@ -81,7 +82,7 @@ fn module_refused_untouched() {
         (MODULE, one_short, WORK, 5, 0),
         (MODULE, all, WORK - 1, 5, 0),
     ] {
-        let mut lent = lend(output, 28, 14, work);
+        let mut lent = lend(output, FIXED, 14, work);
         assert_eq!(check(input, &mut lent), refused(number, place));
         assert!(untouched(&lent));
     }
@@ -89,7 +90,7 @@ fn module_refused_untouched() {
 
 #[test]
 fn module_refused_emptied() {
-    for (rows, errors, number) in [(27, 14, 6), (0, 0, 6), (28, 13, 7)] {
+    for (rows, errors, number) in [(FIXED - 1, 14, 6), (0, 0, 6), (FIXED, 13, 7)] {
         let mut lent = lend(MODULE.len() + 1, rows, errors, WORK + 1);
         assert_eq!(check(MODULE, &mut lent), refused(number, 0));
         let (last, first) = lent.output.split_last().unwrap();
@@ -104,17 +105,17 @@ const COUNT: u32 = 11;
 
 fn table() -> Vec<u32> {
     [
-        [1, 0, 0, 0],
-        [2, 0, 0, 0],
-        [3, 0, 0, 0],
-        [4, 0, 0, 0],
-        [5, 0, 0, 0],
-        [6, 4, 0, 0],
-        [11, 6, 0, 65535],
-        [7, 4, 4, 0],
-        [6, 8, 0, 0],
-        [7, 4, 65536, 0],
-        [10, 4, 0, 0],
+        [1, 0, 0, 0, 65537],
+        [2, 0, 0, 0, 0],
+        [3, 0, 0, 0, 1],
+        [4, 0, 0, 0, 1],
+        [5, 0, 0, 0, 1],
+        [6, 4, 0, 0, 1],
+        [11, 6, 0, 65535, 1],
+        [7, 4, 4, 0, 4],
+        [6, 8, 0, 0, 1],
+        [7, 4, 65536, 0, 65536],
+        [10, 4, 0, 0, 1],
     ]
     .concat()
 }
@@ -143,8 +144,8 @@ fn relations() {
 fn array_table(count: usize, one_bucket: bool) -> Vec<u32> {
     let bucket = |size: u64| (7 * 268435399 + 4 * 165580141 + size * 228826127) / 262144 % 512;
     let sizes = (0..).filter(|&size| !one_bucket || bucket(size) == 0);
-    let mut rows = table()[..7 * ROW_WORDS].to_vec();
-    rows.extend(sizes.take(count - 7).flat_map(|size| [7, 4, size as u32, 0]));
+    let mut rows = table()[..FIXED].to_vec();
+    rows.extend(sizes.take(count - 7).flat_map(|size| [7, 4, size as u32, 0, size.min(65536) as u32]));
     rows
 }
 
@@ -174,17 +175,69 @@ fn twins() {
 #[test]
 fn sizes() {
     let rows = table();
-    let mut work = [9; COUNT as usize + 1];
     for (n, size) in
         [(1, WordSize::Unknown), (2, WordSize::Words(0)), (8, WordSize::Words(4)), (10, WordSize::TooLarge)]
     {
-        assert_eq!(word_size(&rows, COUNT, n, &mut work), Ok(size));
-        assert_eq!(work, [65537, 0, 1, 1, 1, 1, 1, 4, 1, 65536, 1, 9]);
+        assert_eq!(word_size(&rows, COUNT, n), Ok(size));
     }
-    let mut work = [9; COUNT as usize];
-    assert_eq!(word_size(&rows, COUNT, 0, &mut work), refused(8, 0));
-    assert_eq!(word_size(&rows, COUNT, 4, &mut work[1..]), refused(5, 0));
-    // 8 is tested before 5.
-    assert_eq!(word_size(&rows, COUNT, 0, &mut work[1..]), refused(8, 0));
-    assert_eq!(work, [9; COUNT as usize]);
+    for bad in [0, COUNT + 1] {
+        assert_eq!(word_size(&rows, COUNT, bad), refused(8, 0));
+    }
+    assert_eq!(word_size(&rows, COUNT + 1, 4), refused(8, 0));
+}
+
+/// A row of each of the 13 kinds, with its size: rows 1 to 7, `[3]u16`, two field cells of it, their struct, an argument cell, a function
+/// and an alias.
+fn every_kind() -> Vec<u32> {
+    let more = [
+        [7, 4, 3, 0, 3],
+        [12, 4, 0, 1, 1],
+        [12, 8, 9, 2, 4],
+        [8, 10, 0, 0, 4],
+        [13, 8, 0, 0, 0],
+        [9, 1, 12, 0, 65537],
+        [10, 11, 0, 3, 4],
+    ];
+    [&table()[..FIXED], &more.concat()].concat()
+}
+
+/// All three questions are refused with 8 if the fifth word of one row is wrong, though they are not about that row.
+#[test]
+fn wrong_sizes() {
+    let rows = every_kind();
+    let count = (rows.len() / ROW_WORDS) as u32;
+    let said = |rows: &[u32]| {
+        [
+            word_size(rows, count, 4).map(|_| ()),
+            assignable(rows, count, 4, 4).map(|_| ()),
+            castable(rows, count, 4, 4).map(|_| ()),
+        ]
+    };
+    assert_eq!(said(&rows), [Ok(()); 3]);
+    for row in 0..count as usize {
+        let place = ROW_WORDS * row + 4;
+        let right = rows[place];
+        for wrong in [right.wrapping_add(1), right.wrapping_sub(1), 65535, 65536, 65537, u32::MAX] {
+            if wrong != right {
+                let mut rows = rows.clone();
+                rows[place] = wrong;
+                assert_eq!(said(&rows), [refused(8, 0); 3], "row {}: {wrong} for {right}", row + 1);
+            }
+        }
+    }
+    // Two sizes exchanged; a field cell with its type's alone; an argument cell with its type's.
+    for (a, b) in [(8, 11), (9, 10), (2, 3), (12, 13)] {
+        let mut rows = rows.clone();
+        rows.swap(ROW_WORDS * (a - 1) + 4, ROW_WORDS * (b - 1) + 4);
+        assert_eq!(said(&rows), [refused(8, 0); 3], "rows {a} and {b}");
+    }
+    for (row, wrong) in [(10, 3), (12, 3)] {
+        let mut rows = rows.clone();
+        rows[ROW_WORDS * (row - 1) + 4] = wrong;
+        assert_eq!(said(&rows), [refused(8, 0); 3], "row {row}");
+    }
+    // A row past the count may have any fifth word.
+    let mut rows = rows.clone();
+    *rows.last_mut().unwrap() = 9;
+    assert_eq!(word_size(&rows, count - 1, 11), Ok(WordSize::Words(4)));
 }

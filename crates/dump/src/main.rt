@@ -17,7 +17,7 @@ use program_support::slots::slot_place;
 use rows::ROW_WIDTH;
 use type_check::Answer;
 
-// `row NUMBER KIND FIRST SECOND NAME`
+// `row NUMBER KIND FIRST SECOND NAME WORDS`
 fn put_row(buffer: &mut [u8], used: usize, rows: &[u32], i: usize) -> usize {
     if rows.len() / ROW_WIDTH <= i {
         return used;

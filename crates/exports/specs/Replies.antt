@@ -54,7 +54,7 @@ pub record AnswerTold (w : List ℕ) (count m n : ℕ) (value : Bool) (number an
   pub tells : (number ≡ refusalNumber outcome) × (answer ≡ valueOf asNumber outcome)
 
 -- The promise of words holds of an outcome, which is told by its number and its size as one word
-pub record SizeTold (w : List ℕ) (count n : ℕ) (work work′ : List ℕ) (number size : ℕ) : Type 0 where
+pub record SizeTold (w : List ℕ) (count n number size : ℕ) : Type 0 where
   pub outcome : Outcome WordSize
-  pub measures : Measures w count n work work′ outcome
+  pub measures : Measures w count n outcome
   pub tells : (number ≡ refusalNumber outcome) × (size ≡ valueOf asWord outcome)

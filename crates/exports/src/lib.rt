@@ -2,9 +2,9 @@
 // if the call is accepted, else the number of the refusal, and writes every value it answers through a `&mut`; a value
 // that the answer has not is 0. Nothing is asked of the caller but what `&` and `&mut` mean.
 use relations::Measured;
-use relations::TOO_LARGE_WORD;
-use relations::UNKNOWN_WORD;
 use relations::WordSize;
+use size_words::TOO_LARGE_WORD;
+use size_words::UNKNOWN_WORD;
 use type_check::Answer;
 ghost use mathlib.Core.Path.{_≡_};
 ghost use Rattle.contract.specs.Moments.{old, final};
@@ -126,27 +126,17 @@ fn put_size(given: Measured, size: &mut u32) -> u32
             *size = size_word(found);
             0
         }
-        Measured::ShortLoan => {
-            *size = 0;
-            5
-        }
-        Measured::BadRows => {
+        Measured::Refused => {
             *size = 0;
             8
         }
     }
 }
 
-// How many words the type of row n has. One working word a row is lent, and holds the row's own size after.
+// How many words the type of row n has: the row's fifth word.
 #[no_mangle]
-pub extern "C" fn delta_null_word_size(
-    rows: &[u32],
-    count: u32,
-    n: u32,
-    work: &mut [u32],
-    size: &mut u32,
-) -> u32
-    ensures { λ r. ⌜ SizeTold (old rows) count n (old work) (final work) r (final size) ⌝ }
+pub extern "C" fn delta_null_word_size(rows: &[u32], count: u32, n: u32, size: &mut u32) -> u32
+    ensures { λ r. ⌜ SizeTold (old rows) count n r (final size) ⌝ }
 {
-    put_size(relations::words(rows, count, n, work), size)
+    put_size(relations::words(rows, count, n), size)
 }

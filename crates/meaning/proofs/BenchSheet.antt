@@ -2,7 +2,8 @@
 use mathlib.Core.Path.{refl}
 use Rattle.types.specs.Ty.{same, desugar}
 use Rattle.relations.specs.Relations.{typesAreAssignable, strips, castPairs, someFits, isCastableTo}
-use Rattle.relations.specs.WordSize.{toIrType, irWordSize, wordSizeOf}
+use Rattle.types.specs.WordSize.{toIrType, irWordSize}
+use Rattle.relations.specs.WordSize.{wordSizeOf}
 use Rattle.literal.specs.Literal.{digitValue, areDigits, valueFrom, parseDigits, fromStrRadix}
 use Rattle.meaning.specs.BenchSheet.{BenchSheet}
 use Rattle.meaning.specs.Context.{each, insertAll}

@@ -8,6 +8,7 @@ use lib.Dec.{ltb}
 use lib.ListN.{length}
 use Rattle.types.specs.Ty.{Ty}
 use Rattle.types.specs.Table.{rowWidth}
+use Rattle.types.proofs.Sizes.{same-size}
 use Rattle.fallible.specs.Outcome.{Outcome, refused, accepted, firstRefusing, outcomeAfter}
 use Rattle.fallible.specs.Errors.{errorWidth}
 use Rattle.node.specs.Record.{itemTree}
@@ -104,6 +105,7 @@ joining-order c d meets-c meets-d lent other sc sd = outcome (c .answer) (d .ans
         let permuted = errors (c .input) (d .input) other sc sd in
         record {
           rows = ap (λ (z : Counts). z .rows) e;
+          sizes = same-size (c .after .rows) (d .after .rows) (x .rows) (y .rows) (p .table) (q .table);
           errorCounts = ap (λ (z : Counts). z .errors) e;
           items = λ i j hi hj b. filled-alike b (λ t. itemTypes (ctx t) (itemTree (b t))) (p .items i hi) (q .items j hj);
           errors = λ z. ap (timesIn sameError z) (p .errors) ∙ times-permuted sameError z permuted ∙ sym (ap (timesIn sameError z) (q .errors));

@@ -6,6 +6,7 @@ use mathlib.Core.List.{List, [], _∷_, _++_, List·Nodup, List·Mem}
 use lib.Dec.{eqb}
 use lib.ListN.{length, getD}
 use Rattle.types.specs.Ty.{same}
+use Rattle.types.specs.Table.{SameSizes}
 use Rattle.fallible.specs.Outcome.{Outcome, refused, accepted}
 use Rattle.node.specs.Bytes.{byteAt}
 use Rattle.node.specs.Layout.{isEmptyFile, layoutOf}
@@ -112,6 +113,7 @@ sameError e f =
 -- What holds of the two runs where both are accepted
 pub record AcceptedAlike (c d : Run) (countsC countsD : Counts) : Type 0 where
   pub rows : countsC .rows ≡ countsD .rows
+  pub sizes : SameSizes (c .after .rows) (d .after .rows) (countsC .rows) (countsD .rows)
   pub errorCounts : countsC .errors ≡ countsD .errors
   pub items : (i j : ℕ) → i < itemCount (c .input) → j < itemCount (d .input) → itemAt (c .input) i ≡ itemAt (d .input) j
       → Alike (itemAt (c .input) i) (outputAt (c .input) (c .after .output) i) (c .after .rows) (outputAt (d .input) (d .after .output) j) (d .after .rows)

@@ -1,4 +1,3 @@
 pub mod AssignLaws
 pub mod CastLaws
 pub mod WordLaws
-pub mod FillLaws

@@ -1,75 +1,19 @@
--- The words of a type (document 01, "Type rows", Words): exact whole numbers, `word_size` of `to_ir_type`.
-use Prim.Native.Nat.{ℕ, _+_, _*_, _<_}
-use mathlib.Core.Path.{_≡_}
+-- The words answer (document 01, "Type rows", Words): unknown, or too large above 65,535 words, or the number.
+use Prim.Native.Nat.{ℕ}
 use mathlib.Core.Bool.{cond}
-use mathlib.Core.List.{List, [], _∷_}
-use mathlib.Core.Option.{Option, none, some, Option·map}
-use lib.Dec.{leb, eqb}
-use lib.ListN.{getD}
-use Rattle.types.specs.Ty.{Ty, end, node, argumentKind}
-use Rattle.types.specs.Table.{unfolded}
+use mathlib.Core.Option.{Option, none, some}
+use lib.Dec.{leb}
+use Rattle.size_words.specs.SizeWords.{tooLargeWord, unknownWord}
+use Rattle.types.specs.Ty.{Ty}
+use Rattle.types.specs.WordSize.{IrType, toIrType, irWordSize}
 use Rattle.relations.specs.declared.WordSize.{WordSize}
 use Rattle.relations.specs.declared.WordSize.the-variants.{Words, TooLarge, Unknown}
-
--- A type of the backend (`ir::Type`); `more` is a list of them, `noMore` its end
-pub data IrType : Type 0 where
-  void boolean unsigned signed pointer : IrType
-  array : (element : IrType) → (size : ℕ) → IrType
-  struct : (fields : IrType) → IrType
-  function : (returned arguments : IrType) → IrType
-  noMore : IrType
-  more : IrType → (rest : IrType) → IrType
-
--- What either part lacks, both together lack
-abbrev pub join : (IrType → IrType → IrType) → Option IrType → Option IrType → Option IrType
-join f none b = none
-join f (some s) none = none
-join f (some s) (some t) = some (f s t)
-
--- By the kind, from the two parts and the size: no row, Unknown, void, bool, u16, i16, pointer, array, struct, function, alias,
--- distinct alias, field cell, argument cell
-abbrev pub irTypeOf : (kind : ℕ) → (first second : Option IrType) → (size : ℕ) → Option IrType
-irTypeOf k a b s =
-    getD
-    (none
-    ∷ none
-    ∷ some void
-    ∷ some boolean
-    ∷ some unsigned
-    ∷ some signed
-    ∷ some pointer
-    ∷ Option·map (λ t. array t s) a
-    ∷ Option·map struct a
-    ∷ join function a b
-    ∷ a
-    ∷ a
-    ∷ join more a b
-    ∷ join more a b
-    ∷ []) k none
-
--- `to_ir_type`: none where there is an Unknown anywhere but behind a pointer, function parts included
-unfoldable pub toIrType : Ty → Option IrType
-toIrType end = some noMore
-toIrType (node k a b s n) = irTypeOf k (toIrType a) (toIrType b) s
-
--- `word_size`: void 0; u16, i16, bool, pointer, function 1; array size × element; struct the sum
-unfoldable pub irWordSize : IrType → ℕ
-irWordSize void = 0
-irWordSize boolean = 1
-irWordSize unsigned = 1
-irWordSize signed = 1
-irWordSize pointer = 1
-irWordSize (array t size) = size * irWordSize t
-irWordSize (struct fields) = irWordSize fields
-irWordSize (function returned arguments) = 1
-irWordSize noMore = 0
-irWordSize (more t rest) = irWordSize t + irWordSize rest
 
 -- The largest number that is answered
 abbrev pub largest : ℕ
 largest = 65535
 
--- The answer: unknown; above 65,535 too large; or the number
+-- The answer for a backend type, or for none
 abbrev pub answered : Option IrType → WordSize
 answered none = Unknown
 answered (some t) = cond (leb (irWordSize t) largest) (Words (irWordSize t)) TooLarge
@@ -77,30 +21,8 @@ answered (some t) = cond (leb (irWordSize t) largest) (Words (irWordSize t)) Too
 unfoldable pub wordSizeOf : Ty → WordSize
 wordSizeOf t = answered (toIrType t)
 
--- A size as one word: the words, 65,536 for too large, 65,537 for Unknown inside
-abbrev pub tooLargeWord : ℕ
-tooLargeWord = 65536
-
-abbrev pub unknownWord : ℕ
-unknownWord = 65537
-
+-- An answer as one word, as in a row: the words, 65,536 for too large, 65,537 for Unknown inside
 abbrev pub asWord : WordSize → ℕ
 asWord (Words n) = n
 asWord TooLarge = tooLargeWord
 asWord Unknown = unknownWord
-
--- In an argument cell only the Unknown counts
-abbrev pub argumentWord : WordSize → ℕ
-argumentWord (Words n) = 0
-argumentWord TooLarge = 0
-argumentWord Unknown = unknownWord
-
--- The working word of a row: its type's size; of a field cell, its type's and its rest's together; of an argument cell, 0, or
--- 65,537 if it or its rest has Unknown inside
-unfoldable pub workingWord : Ty → ℕ
-workingWord end = 0
-workingWord (node k a b s n) = cond (eqb k argumentKind) (argumentWord (wordSizeOf (node k a b s n))) (asWord (wordSizeOf (node k a b s n)))
-
--- The list begins with the working words of the rows 1 to m
-abbrev pub Hold : (w : List ℕ) (m : ℕ) (work : List ℕ) → Type 0
-Hold w m work = (i : ℕ) → i < m → getD work i 0 ≡ workingWord (unfolded w (i + 1))

@@ -10,6 +10,7 @@ struct Row {
     first: u32,
     second: u32,
     name: u32,
+    size: u32,
 }
 
 // The row of this number from 0 in a case, its parts by the checker's numbers.
@@ -19,24 +20,28 @@ fn translated(expected: &[u8], i: u32, numbers: &[u32]) -> Row {
     let first = word_of(expected, at + 1);
     let second = word_of(expected, at + 2);
     let name = word_of(expected, at + 3);
+    let size = word_of(expected, at + 4);
     match kind {
         6 | 7 | 8 | 10 | 11 => Row {
             kind,
             first: number_of(numbers, first),
             second,
             name,
+            size,
         },
         9 | 12 | 13 => Row {
             kind,
             first: number_of(numbers, first),
             second: number_of(numbers, second),
             name,
+            size,
         },
         _ => Row {
             kind,
             first,
             second,
             name,
+            size,
         },
     }
 }
@@ -56,7 +61,10 @@ fn is_row(rows: &[u32], n: u32, row: Row) -> bool {
     if rows[at + 2] != row.second {
         return false;
     }
-    rows[at + 3] == row.name
+    if rows[at + 3] != row.name {
+        return false;
+    }
+    rows[at + 4] == row.size
 }
 
 // The number of a row among the checker's; 0 if it is not there.

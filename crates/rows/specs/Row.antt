@@ -5,24 +5,30 @@ use mathlib.Core.List.{List}
 use lib.ListN.{getD, set}
 use Rattle.rows.specs.declared.Words.{Words}
 
--- A row is four words
+-- A row is five words
 abbrev pub rowWidth : ℕ
-rowWidth = 4
+rowWidth = 5
 
--- The words of a row: kind, first, second, name
+-- The first four words of a row: kind, first, second, name. They tell rows apart
 abbrev pub words : (kind first second name : ℕ) → Words
 words k f s n = record { kind = k; first = f; second = s; name = n }
 
--- Row n of the table w
+-- Those of row n of the table w
 abbrev pub rowAt : List ℕ → ℕ → Words
 rowAt w n =
     words (getD w (rowWidth * n - rowWidth) 0) (getD w (rowWidth * n - rowWidth + 1) 0) (getD w (rowWidth * n - rowWidth + 2) 0) (getD w (rowWidth * n - rowWidth + 3) 0)
 
--- w with r as row count + 1
-abbrev pub stored : List ℕ → (count : ℕ) → Words → List ℕ
-stored w count r =
-    set (set (set (set w (rowWidth * count) (r .kind)) (rowWidth * count + 1) (r .first)) (rowWidth * count + 2) (r .second)) (rowWidth * count + 3) (r .name)
+-- The fifth word of row n: its size
+abbrev pub sizeWordAt : List ℕ → ℕ → ℕ
+sizeWordAt w n = getD w (rowWidth * n - rowWidth + 4) 0
 
--- No two of the first `count` rows have the same words
+-- w with the words r, and with `size` as the fifth, as row count + 1
+abbrev pub stored : List ℕ → (count : ℕ) → Words → (size : ℕ) → List ℕ
+stored w count r size =
+    set
+    (set (set (set (set w (rowWidth * count) (r .kind)) (rowWidth * count + 1) (r .first)) (rowWidth * count + 2) (r .second)) (rowWidth * count + 3) (r .name))
+    (rowWidth * count + 4) size
+
+-- No two of the first `count` rows have the same first four words
 abbrev pub Distinct : List ℕ → (count : ℕ) → Type 0
 Distinct w count = (i j : ℕ) → 1 ≤ i → i ≤ count → 1 ≤ j → j ≤ count → rowAt w i ≡ rowAt w j → i ≡ j

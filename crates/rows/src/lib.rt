@@ -1,15 +1,15 @@
-// Rows of four words in a slice, numbered from 1: read, looked for and stored. What they mean is told in `types`.
+// Rows of five words in a slice, numbered from 1: read, looked for and stored. What they mean is told in `types`.
 ghost use mathlib.Core.Path.{_≡_};
 ghost use Prim.Native.Nat.{_+_, _*_, _≤_, _<_};
 ghost use lib.ListN.{length};
 ghost use Rattle.contract.specs.Moments.{old, final};
-ghost use Rattle.rows.specs.Row.{words, rowWidth, rowAt, stored};
+ghost use Rattle.rows.specs.Row.{words, rowWidth, rowAt, sizeWordAt, stored};
 ghost use Rattle.rows.specs.Search.{Decides, KeyOf, NoneWith, Skipped, NextWith, Found};
 
 // Words in a row.
-pub const ROW_WIDTH: usize = 4;
+pub const ROW_WIDTH: usize = 5;
 
-// The words of a row.
+// The first four words of a row: they tell rows apart.
 pub struct Words {
     pub kind: u32,
     pub first: u32,
@@ -36,7 +36,7 @@ struct Key {
     word: u32,
 }
 
-// The words of row n.
+// The first four words of row n.
 pub fn row_at(rows: &[u32], n: u32) -> Words
     requires { ⌜ (1 ≤ n) × (rowWidth * n ≤ length (now rows)) ⌝ }
     ensures { λ r. ⌜ r ≡ rowAt (old rows) n ⌝ }
@@ -48,6 +48,14 @@ pub fn row_at(rows: &[u32], n: u32) -> Words
         second: rows[at + 2],
         name: rows[at + 3],
     }
+}
+
+// The fifth word of row n: its size.
+pub fn size_word_at(rows: &[u32], n: u32) -> u32
+    requires { ⌜ (1 ≤ n) × (rowWidth * n ≤ length (now rows)) ⌝ }
+    ensures { λ r. ⌜ r ≡ sizeWordAt (old rows) n ⌝ }
+{
+    rows[ROW_WIDTH * (n as usize) - ROW_WIDTH + 4]
 }
 
 // Whether two rows have the same words. Rows behind the same part differ most often in the second word or the name.
@@ -160,14 +168,15 @@ pub fn find(rows: &[u32], m: u32, count: u32, row: Words) -> u32
     }
 }
 
-// Stores the row behind the first `count` rows.
-pub fn store(rows: &mut [u32], count: u32, row: Words)
+// Stores the row and its size behind the first `count` rows.
+pub fn store(rows: &mut [u32], count: u32, row: Words, size: u32)
     requires { ⌜ rowWidth * count + rowWidth ≤ length (now rows) ⌝ }
-    ensures { λ _. ⌜ final rows ≡ stored (old rows) count row ⌝ }
+    ensures { λ _. ⌜ final rows ≡ stored (old rows) count row size ⌝ }
 {
     let at = ROW_WIDTH * (count as usize);
     rows[at] = row.kind;
     rows[at + 1] = row.first;
     rows[at + 2] = row.second;
     rows[at + 3] = row.name;
+    rows[at + 4] = size;
 }

@@ -12,7 +12,8 @@ use lib.Dec.{eqb}
 use lib.ListN.{length, getD, set, length-set}
 use lib.Seq.{getD-set-same, getD-set-other}
 use Rattle.types.specs.Ty.{Ty, member, fixedTypes, unknown, void, bool, u16, i16, pointer, string}
-use Rattle.types.specs.Table.{Words, words, rowAt, fixedLength, fixedWords, unfolded, upTo, hasType, Table, RowOk, IsType}
+use Rattle.types.specs.WordSize.{toIrType, irWordSize, sizeWord}
+use Rattle.types.specs.Table.{Words, words, rowAt, sizeWordAt, fixedLength, fixedWords, unfolded, upTo, hasType, Table, RowOk, Sizes, IsType}
 use Rattle.types.specs.Post.{FixedStored}
 use Rattle.types.proofs.Grow.{Kept, kept-unfolded, kept-types, kept-type, kept-table}
 use Rattle.types.proofs.Query.{type-wider}
@@ -83,6 +84,12 @@ number i l h =
     each-below 8 (λ (i : ℕ). 1 ≤ i → numberOf (rowAt fixedWords i .kind) ≡ i)
     (λ l. refl, (λ l. refl, (λ l. refl, (λ l. refl, (λ l. refl, (λ l. refl, (λ l. refl, (λ l. absurd (omega arith), tt)))))))) i (omega arith) l
 
+sizes : Sizes fixedWords 7
+unfolding unfolded upTo toIrType irWordSize sizeWord
+sizes n l h =
+    each-below 8 (λ (n : ℕ). 1 ≤ n → sizeWordAt fixedWords n ≡ sizeWord (unfolded fixedWords n))
+    (λ l. refl, (λ l. refl, (λ l. refl, (λ l. refl, (λ l. refl, (λ l. refl, (λ l. refl, (λ l. absurd (omega arith), tt)))))))) n (omega arith) l
+
 fixed-words : Table fixedWords 7
 fixed-words =
     record {
@@ -92,6 +99,7 @@ fixed-words =
       fixed = λ i h. refl;
       rows = rows;
       distinct = λ i j li hi lj hj e. sym (number i li hi) ∙ ap (λ (r : Words). numberOf (r .kind)) e ∙ number j lj hj;
+      sizes = sizes;
     }
 
 pub fixed-table : (w : List ℕ) → fixedLength ≤ length w → Kept fixedWords w 7 → Table w 7

@@ -13,7 +13,9 @@ use Rattle.row_index.proofs.Additions.{rows-then, rows-kept, indexed-rows}
 use Rattle.types.specs.Ty.{Ty, same}
 use Rattle.types.specs.declared.PartKind.{PartKind}
 use Rattle.types.specs.declared.PartKind.the-variants.{Unused, TypeRow, Size, Fields, Arguments}
-use Rattle.types.specs.Table.{Words, rowWidth, rowAt, build, upTo, unfolded, hasType, firstPart, secondPart, Table, RowOk, PartOk, IsType, IsCell, Extends}
+use Rattle.types.specs.WordSize.{sizeWord}
+use Rattle.types.specs.Table.{Words, rowWidth, rowAt, sizeWordAt, build, upTo, unfolded, hasType, firstPart, secondPart, Table, RowOk, PartOk, IsType, IsCell, Extends}
+use Rattle.types.proofs.Rows.{Rows, table-rows}
 
 -- The words of the first `count` rows are the same
 abbrev pub Kept : (w w′ : List ℕ) (count : ℕ) → Type 0
@@ -27,6 +29,9 @@ module _ (w w′ : List ℕ) (count : ℕ) (kept : Kept w w′ count) where
       let s = kept (rowWidth * n - rowWidth + 2) (omega arith) in
       let m = kept (rowWidth * n - rowWidth + 3) (omega arith) in
       λ i. record { kind = k i; first = f i; second = s i; name = m i }
+
+  kept-size : (n : ℕ) → 1 ≤ n → n ≤ count → sizeWordAt w′ n ≡ sizeWordAt w n
+  kept-size n l h = kept (rowWidth * n - rowWidth + 4) (omega arith)
 
   kept-upTo : (m : ℕ) → m ≤ count → upTo w′ m ≡ upTo w m
   unfolding upTo
@@ -79,16 +84,26 @@ module _ (w w′ : List ℕ) (count : ℕ) (kept : Kept w w′ count) where
         name = ok .name;
       }
 
+  pub kept-rows : (m : ℕ) → m ≤ count → Rows w m → Rows w′ m
+  kept-rows m h s =
+      record {
+        rows = λ i l. subst (RowOk w′ i) (sym (kept-row (i + 1) (omega arith) (omega arith))) (kept-ok i (omega arith) (rowAt w (i + 1)) (s .rows i l));
+        distinct = λ i j li hi lj hj e. s .distinct i j li hi lj hj (sym (kept-row i li (omega arith)) ∙ e ∙ kept-row j lj (omega arith));
+        sizes = λ n l b. kept-size n l (omega arith) ∙ s .sizes n l b ∙ ap sizeWord (sym (kept-unfolded n (omega arith)));
+      }
+
   -- A table is one in any words that begin with its rows
   pub kept-table : rowWidth * count ≤ length w′ → Table w count → Table w′ count
   kept-table room t =
+      let s = kept-rows count (omega arith) (table-rows t) in
       record {
         room = room;
         small = t .small;
         seven = t .seven;
-        fixed = λ i h. let s = t .seven in kept i (omega arith) ∙ t .fixed i h;
-        rows = λ m h. subst (RowOk w′ m) (sym (kept-row (m + 1) (omega arith) (omega arith))) (kept-ok m (omega arith) (rowAt w (m + 1)) (t .rows m h));
-        distinct = λ i j li hi lj hj e. t .distinct i j li hi lj hj (sym (kept-row i li hi) ∙ e ∙ kept-row j lj hj);
+        fixed = λ i h. let l = t .seven in kept i (omega arith) ∙ t .fixed i h;
+        rows = s .rows;
+        distinct = s .distinct;
+        sizes = s .sizes;
       }
 
 pub extends-refl : (w : List ℕ) (count : ℕ) → Extends w count w count

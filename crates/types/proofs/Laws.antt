@@ -100,6 +100,13 @@ module _ (w : List ℕ) (m : ℕ) (r : Words) (ok : RowOk w m r) where
       go true e = rw (e, h (r .first) first-at-most)
       go false e = rw (e, h (r .first) first-at-most, h (r .second) (second-at-most (eqb-false (r .kind) 7 e)))
 
+-- A row that obeys the rules unfolds to its words, each row number among them replaced by that row unfolded
+pub unfolded-ok : (w : List ℕ) (m : ℕ) → RowOk w m (rowAt w (m + 1)) → unfolded w (m + 1) ≡ build (rowAt w (m + 1)) (unfolded w)
+unfolding unfolded
+unfolded-ok w m ok =
+    subst (λ (n : ℕ). RowOk w m (rowAt w n) → upTo w n n ≡ build (rowAt w n) (unfolded w)) (sym (add-one m))
+    (λ p. upTo-here w m ∙ build-below w m (rowAt w (suc m)) p (upTo w m) (unfolded w) (upTo-unfolded w m)) ok
+
 -- Rows that obey the rules and unfold to the same type have the same words, if their parts that unfold to the same type have the same number
 same-words : (w : List ℕ) (m k : ℕ) (r q : Words) → RowOk w m r → RowOk w k q → ((i j : ℕ) → i ≤ m → j ≤ k → unfolded w i ≡ unfolded w j → i ≡ j)
     → build r (unfolded w) ≡ build q (unfolded w) → r ≡ q
@@ -129,11 +136,9 @@ module _ (w : List ℕ) (count : ℕ) (t : Table w count) where
   pub second-lower : (n : ℕ) → 1 ≤ n → n ≤ count → (rowAt w n .kind ≡ 7 → ⊥) → rowAt w n .second < n
   second-lower n l h ne = let p = second-at-most w (n - 1) (rowAt w n) (row-ok n l h) ne in omega arith
 
-  -- A row unfolded is its words, each row number among them replaced by that row unfolded
   pub unfolded-row : (n : ℕ) → 1 ≤ n → n ≤ count → unfolded w n ≡ build (rowAt w n) (unfolded w)
-  unfolding unfolded
   unfolded-row zero l h = absurd (omega arith)
-  unfolded-row (suc m) l h = upTo-here w m ∙ build-below w m (rowAt w (suc m)) (rw add-one at (t .rows m h)) (upTo w m) (unfolded w) (upTo-unfolded w m)
+  unfolded-row (suc m) l h = rw add-one at (unfolded-ok w m (t .rows m h))
 
   pub row-not-end : (n : ℕ) → 1 ≤ n → n ≤ count → end ≡ unfolded w n → ⊥
   row-not-end n l h e = end-node (e ∙ unfolded-row n l h)

@@ -7,6 +7,7 @@ use native.Mathlib.Omega.{arith}
 use lib.ListN.{length}
 use Rattle.types.specs.Ty.{Ty, end, node}
 use Rattle.row_index.specs.Index.{withRow, withRows}
+use Rattle.types.specs.WordSize.{sizeWord}
 use Rattle.types.specs.Table.{rowWidth, Words, rowAt, build, unfolded, hasType, Table, RowOk, IsType, IsCell, NameOk}
 use Rattle.types.specs.Post.{typeOfRow, wordsOf, PartsOk, Sort, Added, NoRoom, Found, highestPart, stored}
 use Rattle.types.specs.declared.Row.{Row}
@@ -79,8 +80,8 @@ intern-from w c row parts r e m h =
     subst (λ (x : ℕ). x ≤ c) (sym h) (highest-low w c r (subst (RowOk w c) (sym e) (words-ok w c row parts)))
 
 module _ {w : List ℕ} {c : ℕ} {row : Row} {r : Words} {m n : ℕ} (s : Sought w c row r m n) where
-  ok : RowOk w c r
-  ok = subst (RowOk w c) (sym (s .words)) (words-ok w c row (s .parts))
+  pub intern-ok : RowOk w c r
+  intern-ok = subst (RowOk w c) (sym (s .words)) (words-ok w c row (s .parts))
 
   built : build r (unfolded w) ≡ typeOfRow row (unfolded w)
   built = ap (λ (x : Words). build x (unfolded w)) (s .words) ∙ words-type row (unfolded w) (unfolded-zero w)
@@ -94,21 +95,21 @@ module _ {w : List ℕ} {c : ℕ} {row : Row} {r : Words} {m n : ℕ} (s : Sough
         words-sort w c n l h row (e ∙ s .words),
       )
 
-  pub intern-linked : rowWidth * (c + 1) ≤ length w → {w′ : List ℕ} → w′ ≡ stored w c r → (b : List ℕ) {b′ : List ℕ} → b′ ≡ withRow b (c + 1) r → b′ ≡ withRows b w′ c (c + 1)
-  intern-linked room = stored-linked w c r (omega arith)
+  pub intern-linked : rowWidth * (c + 1) ≤ length w → (size : ℕ) {w′ : List ℕ} → w′ ≡ stored w c r size → (b : List ℕ) {b′ : List ℕ} → b′ ≡ withRow b (c + 1) r → b′ ≡ withRows b w′ c (c + 1)
+  intern-linked room size = stored-linked w c r size (omega arith)
 
   module _ (z : n ≡ 0) where
     none : (i : ℕ) → 1 ≤ i → i ≤ c → rowAt w i ≡ r → ⊥
     none = none-like w c (s .table .rows) r n (subst (λ (x : ℕ). Found w x c r n) (s .highest) (s .found)) z
 
     pub intern-full : (length w < rowWidth * (c + 1)) ⊎ (2 ^ 32 ≤ c + 1) → NoRoom w c (typeOfRow row (unfolded w)) w
-    intern-full full = record { kept = refl; absent = ap (hasType w c) (sym built) ∙ new-type w c r (s .table) ok none; full = full }
+    intern-full full = record { kept = refl; absent = ap (hasType w c) (sym built) ∙ new-type w c r (s .table) intern-ok none; full = full }
 
-    pub intern-new : c + 1 < 2 ^ 32 → rowWidth * (c + 1) ≤ length w → {w′ : List ℕ} → w′ ≡ stored w c r
+    pub intern-new : c + 1 < 2 ^ 32 → rowWidth * (c + 1) ≤ length w → (size : ℕ) → size ≡ sizeWord (build r (unfolded w)) → {w′ : List ℕ} → w′ ≡ stored w c r size
         → Added w c (typeOfRow row (unfolded w)) w′ (c + 1) (c + 1) × Sort w′ (c + 1) row (c + 1)
-    intern-new small room {w′} e =
+    intern-new small room size size-is {w′} e =
         let space : rowWidth * c + rowWidth ≤ length w = omega arith in
-        let added = added-stored w c r space (s .table) ok small none in (
-          subst (λ (x : List ℕ). Added w c (typeOfRow row (unfolded w)) x (c + 1) (c + 1)) (sym e) (subst (λ (u : Ty). Added w c u (stored w c r) (c + 1) (c + 1)) built added),
-          words-sort w′ (c + 1) (c + 1) (omega arith) (omega arith) row (ap (λ (x : List ℕ). rowAt x (c + 1)) e ∙ stored-row w c r space ∙ s .words),
+        let added = added-stored w c r size space (s .table) intern-ok size-is none small in (
+          subst (λ (x : List ℕ). Added w c (typeOfRow row (unfolded w)) x (c + 1) (c + 1)) (sym e) (subst (λ (u : Ty). Added w c u (stored w c r size) (c + 1) (c + 1)) built added),
+          words-sort w′ (c + 1) (c + 1) (omega arith) (omega arith) row (ap (λ (x : List ℕ). rowAt x (c + 1)) e ∙ stored-row w c r size space ∙ s .words),
         )

@@ -1,5 +1,5 @@
 -- What the functions of the table promise.
-use Prim.Native.Nat.{ℕ, _+_, _*_, _^_, _≤_, _<_}
+use Prim.Native.Nat.{ℕ, zero, suc, _+_, _*_, _^_, _≤_, _<_}
 use mathlib.Core.Path.{_≡_}
 use mathlib.Core.Bool.{false, cond, _||_}
 use mathlib.Core.List.{List}
@@ -10,8 +10,8 @@ use lib.ListN.{length, getD}
 use Rattle.types.specs.Ty.{Ty, same, member, fixedTypes, kindOf, pointer, array, struct, function, alias}
 use Rattle.types.specs.Ty.{distinct, field, argument, pointerKind, arrayKind, structKind, functionKind, aliasKind}
 use Rattle.types.specs.Ty.{distinctKind, fieldKind, argumentKind, stringName}
-use Rattle.types.specs.Table.{Words, words, rowWidth, fixedCount, fixedLength, unfolded, hasType, Table, Extends}
-use Rattle.types.specs.Table.{IsType, IsCell}
+use Rattle.types.specs.Table.{Words, words, rowWidth, sizeWordAt, fixedCount, fixedLength, unfolded, hasType}
+use Rattle.types.specs.Table.{Table, Extends, IsType, IsCell}
 pub use Rattle.rows.specs.Row.{stored}
 pub use Rattle.rows.specs.Search.{Found}
 use Rattle.types.specs.declared.Row.{Row}
@@ -122,3 +122,8 @@ HasTypePart t = (pointerKind ≤ kindOf t) × (kindOf t ≡ structKind → ⊥)
 -- The highest row that a row points to, or 0: a size is no row
 abbrev pub highestPart : Words → ℕ
 highestPart r = cond (eqb (r .kind) arrayKind) (r .first) (cond (ltb (r .first) (r .second)) (r .second) (r .first))
+
+-- The fifth word of row n; the number 0 has 0 words
+abbrev pub partWord : List ℕ → (n : ℕ) → ℕ
+partWord w zero = 0
+partWord w (suc n) = sizeWordAt w (suc n)

@@ -10,8 +10,10 @@ use Rattle.types.specs.Ty.{Ty, end, node, same, unknownKind, voidKind, b
 use Rattle.types.specs.Ty.{arrayKind, structKind, functionKind, aliasKind, distinctKind, fieldKind, argumentKind}
 use Rattle.types.specs.Ty.{stringName}
 pub use Rattle.rows.specs.declared.Words.{Words}
-pub use Rattle.rows.specs.Row.{rowWidth, words, rowAt, Distinct}
+pub use Rattle.rows.specs.Row.{rowWidth, words, rowAt, sizeWordAt, Distinct}
 pub use Rattle.rows.specs.Search.{Decides}
+use Rattle.size_words.specs.SizeWords.{unknownWord}
+use Rattle.types.specs.WordSize.{sizeWord}
 use Rattle.types.specs.declared.PartKind.{PartKind}
 use Rattle.types.specs.declared.PartKind.the-variants.{Unused, TypeRow, Size, Fields, Arguments}
 
@@ -90,18 +92,27 @@ fixedLength = rowWidth * fixedCount
 -- Their words: Unknown, void, bool, u16, i16, pointer to u16 (row 4), and String, a distinct alias of row 6
 abbrev pub fixedWords : List ℕ
 fixedWords =
-    unknownKind ∷ 0 ∷ 0 ∷ 0
-    ∷ voidKind ∷ 0 ∷ 0 ∷ 0
-    ∷ boolKind ∷ 0 ∷ 0 ∷ 0
-    ∷ u16Kind ∷ 0 ∷ 0 ∷ 0
-    ∷ i16Kind ∷ 0 ∷ 0 ∷ 0
-    ∷ pointerKind ∷ 4 ∷ 0 ∷ 0
-    ∷ distinctKind ∷ 6 ∷ 0 ∷ stringName
+    unknownKind ∷ 0 ∷ 0 ∷ 0 ∷ unknownWord
+    ∷ voidKind ∷ 0 ∷ 0 ∷ 0 ∷ 0
+    ∷ boolKind ∷ 0 ∷ 0 ∷ 0 ∷ 1
+    ∷ u16Kind ∷ 0 ∷ 0 ∷ 0 ∷ 1
+    ∷ i16Kind ∷ 0 ∷ 0 ∷ 0 ∷ 1
+    ∷ pointerKind ∷ 4 ∷ 0 ∷ 0 ∷ 1
+    ∷ distinctKind ∷ 6 ∷ 0 ∷ stringName ∷ 1
     ∷ []
 
 -- w begins with them
 abbrev pub FixedRows : List ℕ → Type 0
 FixedRows w = (i : ℕ) → i < fixedLength → getD w i 0 ≡ getD fixedWords i 0
+
+-- The fifth word of each of the rows 1 to m is its size
+abbrev pub Sizes : List ℕ → (m : ℕ) → Type 0
+Sizes w m = (n : ℕ) → 1 ≤ n → n ≤ m → sizeWordAt w n ≡ sizeWord (unfolded w n)
+
+-- Rows of two tables that unfold to the same have the same fifth word
+abbrev pub SameSizes : (w w′ : List ℕ) (count count′ : ℕ) → Type 0
+SameSizes w w′ count count′ =
+    (m n : ℕ) → 1 ≤ m → m ≤ count → 1 ≤ n → n ≤ count′ → unfolded w m ≡ unfolded w′ n → sizeWordAt w m ≡ sizeWordAt w′ n
 
 -- The first `count` rows of w obey the rules; the count is a u32
 pub record Table (w : List ℕ) (count : ℕ) : Type 0 where
@@ -111,6 +122,7 @@ pub record Table (w : List ℕ) (count : ℕ) : Type 0 where
   pub fixed : FixedRows w
   pub rows : (m : ℕ) → m < count → RowOk w m (rowAt w (m + 1))
   pub distinct : Distinct w count
+  pub sizes : Sizes w count
 
 -- w′ has the first `count` rows of w, and past its own rows the words of w
 pub record Extends (w : List ℕ) (count : ℕ) (w′ : List ℕ) (count′ : ℕ) : Type 0 where

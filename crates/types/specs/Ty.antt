@@ -1,5 +1,6 @@
 -- Unfolded types (document 01, "Words of demand 3"): a row unfolded is its words, each row number among them replaced by that row unfolded.
--- One node serves every kind, so that a definition over types has two clauses.
+-- One node serves every kind, so that a definition over types has two clauses. A row's fifth word is no part of it: it follows from the
+-- others (`sizeWord`), so rows that unfold to the same have the same (`same-size`).
 use Prim.Native.Nat.{ℕ, suc, _+_}
 use mathlib.Core.Bool.{Bool, true, false, cond, _&&_, _||_}
 use mathlib.Core.List.{List, [], _∷_, _++_}

@@ -3,7 +3,12 @@
 use rows::ROW_WIDTH;
 use rows::Words;
 use rows::row_at;
+use rows::size_word_at;
 use rows::store;
+use size_words::UNKNOWN_WORD;
+use size_words::array_word;
+use size_words::field_word;
+use size_words::known_word;
 ghost use mathlib.Core.Path.{_≡_};
 ghost use Prim.Native.Nat.{_+_, _*_, _≤_, _<_};
 ghost use lib.ListN.{length};
@@ -12,8 +17,9 @@ ghost use Rattle.row_index.specs.Index.{RowsIndexed, withRows};
 ghost use Rattle.types.specs.Ty.{kindOf, firstOf, secondOf, sizeOf, nameOf, desugar as desugared, removeAliasing};
 ghost use Rattle.types.specs.Ty.{cellCount, fieldNamed, arrayKind, structKind, functionKind, fieldKind};
 ghost use Rattle.types.specs.Ty.{argumentKind};
-ghost use Rattle.types.specs.Table.{fixedLength, unfolded, Table, IsType, IsList};
-ghost use Rattle.types.specs.Post.{wordsOf, highestPart, PartsOk, InternPost, countAfter, FixedStored};
+ghost use Rattle.types.specs.WordSize.{sizeWord};
+ghost use Rattle.types.specs.Table.{rowWidth, fixedLength, build, unfolded, RowOk, Sizes, Table, IsType, IsList};
+ghost use Rattle.types.specs.Post.{wordsOf, highestPart, partWord, PartsOk, InternPost, countAfter, FixedStored};
 ghost use Rattle.types.specs.Post.{HasTypePart, TypePart, CellPart, FoundType};
 
 // The rows that every table begins with, and their words.
@@ -60,7 +66,9 @@ pub const FIXED_WORDS: [u32; FIXED_LENGTH] = [
     0,
     0,
     0,
+    UNKNOWN_WORD,
     VOID,
+    0,
     0,
     0,
     0,
@@ -68,22 +76,27 @@ pub const FIXED_WORDS: [u32; FIXED_LENGTH] = [
     0,
     0,
     0,
+    1,
     U16,
     0,
     0,
     0,
+    1,
     I16,
     0,
     0,
     0,
+    1,
     POINTER,
     4,
     0,
     0,
+    1,
     DISTINCT_ALIAS,
     6,
     0,
     STRING_NAME,
+    1,
 ];
 
 // What the first or the second word of a row is: 0, a type row, a size, or a list of cells.
@@ -208,6 +221,14 @@ pub fn cell_count(rows: &[u32], count: u32, cell: u32) -> u32
     cells
 }
 
+// The size of row n: how many words its type has, or a word that stands for no number.
+pub fn words(rows: &[u32], count: u32, n: u32) -> u32
+    requires { ⌜ Table (now rows) count × (1 ≤ n) × (n ≤ count) ⌝ }
+    ensures { λ r. ⌜ r ≡ sizeWord (unfolded (old rows) n) ⌝ }
+{
+    size_word_at(rows, n)
+}
+
 // Row n with its transparent aliases stripped at the top.
 pub fn desugar(rows: &[u32], count: u32, n: u32) -> u32
     requires { ⌜ Table (now rows) count × IsType (now rows) count n ⌝ }
@@ -270,6 +291,52 @@ pub fn highest_part(row: Words) -> u32
     row.first
 }
 
+// The size of a part: the fifth word of that row, or 0 for the number 0.
+fn part_word(rows: &[u32], part: u32) -> u32
+    requires { ⌜ rowWidth * part ≤ length (now rows) ⌝ }
+    ensures { λ r. ⌜ r ≡ partWord (old rows) part ⌝ }
+{
+    if part < 1 {
+        return 0;
+    }
+    size_word_at(rows, part)
+}
+
+// The size of a row that may stand behind the rows 1 to m, from the sizes of its parts.
+pub fn size_word(rows: &[u32], m: u32, row: Words) -> u32
+    requires { ⌜ RowOk (now rows) m row × Sizes (now rows) m × (rowWidth * m ≤ length (now rows)) ⌝ }
+    ensures { λ r. ⌜ r ≡ sizeWord (build row (unfolded (old rows))) ⌝ }
+{
+    let kind = row.kind;
+    if kind < VOID {
+        return UNKNOWN_WORD;
+    }
+    if kind < BOOL {
+        return 0;
+    }
+    // bool, u16, i16, pointer
+    if kind < ARRAY {
+        return 1;
+    }
+    let first = part_word(rows, row.first);
+    if kind == ARRAY {
+        return array_word(first, row.second);
+    }
+    if kind == FUNCTION {
+        return known_word(first, part_word(rows, row.second), 1);
+    }
+    // struct, the two sorts of alias
+    if kind < FIELD {
+        return first;
+    }
+    let rest = part_word(rows, row.second);
+    if kind == FIELD {
+        return field_word(first, rest);
+    }
+    // argument cell
+    known_word(first, rest, 0)
+}
+
 // The row that is asked for: found, or added behind the first `count` rows.
 // A row stands behind its parts, so the search starts behind the highest of them.
 pub fn intern(
@@ -295,7 +362,8 @@ pub fn intern(
     if count == u32::MAX {
         return Interned::Full;
     }
-    store(rows, count, wanted);
+    let size = size_word(rows, count, wanted);
+    store(rows, count, wanted, size);
     row_index::link(index, count + 1, wanted);
     Interned::At {
         number: count + 1,
@@ -308,9 +376,10 @@ pub fn put_fixed_rows(rows: &mut [u32])
     requires { ⌜ fixedLength ≤ length (now rows) ⌝ }
     ensures { λ _. ⌜ FixedStored (old rows) (final rows) ⌝ }
 {
+    let fixed = FIXED_WORDS;
     let mut i = 0;
     while i < FIXED_LENGTH {
-        rows[i] = FIXED_WORDS[i];
+        rows[i] = fixed[i];
         i += 1;
     }
 }

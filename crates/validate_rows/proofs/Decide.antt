@@ -14,6 +14,10 @@ use Rattle.types.specs.Table.{Words, rowAt, IsType, IsCell, PartOk, NameOk, Row
 pub by-leb : (a b : ℕ) → Decides (a ≤ b) (leb a b)
 by-leb a b = record { yes = leb-true a b; no = λ e h. let l : b < a = leb-false a b e in omega arith }
 
+-- Two numbers whose values are known
+pub by-values : (x y a b : ℕ) → x ≡ a → y ≡ b → Decides (a ≡ b) (eqb x y)
+by-values x y a b e f = likewise (x ≡ y) (a ≡ b) (eqb x y) (by-eqb x y) (λ q. sym e ∙ q ∙ f) (λ q. e ∙ q ∙ sym f)
+
 -- A type row
 module _ (w : List ℕ) (m v : ℕ) where
   pub type-zero : v < 1 → Decides (IsType w m v) false

@@ -2,6 +2,7 @@
 use rows::ROW_WIDTH;
 use rows::Words;
 use rows::row_at;
+use rows::size_word_at;
 use types::ALIAS;
 use types::ARGUMENT;
 use types::ARRAY;
@@ -17,14 +18,16 @@ use types::STRING_NAME;
 use types::STRUCT;
 use types::UNKNOWN;
 use types::highest_part;
+use types::size_word;
 ghost use mathlib.Core.Path.{_≡_};
 ghost use Prim.Native.Nat.{_+_, _*_, _^_, _≤_, _<_};
 ghost use lib.ListN.{length};
 ghost use Rattle.contract.specs.Moments.{old};
-ghost use Rattle.rows.specs.Row.{rowWidth};
+ghost use Rattle.rows.specs.Row.{rowWidth, sizeWordAt};
 ghost use Rattle.rows.specs.Search.{Decides};
-ghost use Rattle.types.specs.Table.{fixedLength, FixedRows, firstPart, secondPart, Table, RowOk, PartOk, NameOk, IsType};
-ghost use Rattle.types.specs.Table.{IsCell};
+ghost use Rattle.types.specs.WordSize.{sizeWord};
+ghost use Rattle.types.specs.Table.{fixedLength, FixedRows, firstPart, secondPart, build, unfolded, Sizes, Table, RowOk};
+ghost use Rattle.types.specs.Table.{PartOk, NameOk, IsType, IsCell};
 
 // Whether v is a type row among the rows 1 to m.
 pub fn is_type(rows: &[u32], m: u32, v: u32) -> bool
@@ -134,14 +137,25 @@ fn is_row(rows: &[u32], m: u32, row: Words) -> bool
     is_name(m + 1, row.kind, row.name)
 }
 
+// Whether the fifth word of row m + 1, behind the rows 1 to m, is its size.
+fn has_size(rows: &[u32], m: u32, row: Words) -> bool
+    requires { ⌜ RowOk (now rows) m row × Sizes (now rows) m × (rowWidth * m + rowWidth ≤ length (now rows)) ⌝ }
+    requires { ⌜ m + 1 < 2 ^ 32 ⌝ }
+    ensures { λ r. ⌜ Decides (sizeWordAt (old rows) (m + 1) ≡ sizeWord (build row (unfolded (old rows)))) r ⌝ }
+{
+    let size = size_word(rows, m, row);
+    size_word_at(rows, m + 1) == size
+}
+
 // Whether the table begins with the fixed rows.
 fn has_fixed_rows(rows: &[u32]) -> bool
     requires { ⌜ fixedLength ≤ length (now rows) ⌝ }
     ensures { λ r. ⌜ Decides (FixedRows (old rows)) r ⌝ }
 {
+    let fixed = FIXED_WORDS;
     let mut i = 0;
     while i < FIXED_LENGTH {
-        if rows[i] != FIXED_WORDS[i] {
+        if rows[i] != fixed[i] {
             return false;
         }
         i += 1;
@@ -167,6 +181,9 @@ pub fn is_table(rows: &[u32], count: u32) -> bool
     while m < count {
         let row = row_at(rows, m + 1);
         if !is_row(rows, m, row) {
+            return false;
+        }
+        if !has_size(rows, m, row) {
             return false;
         }
         let below = highest_part(row);

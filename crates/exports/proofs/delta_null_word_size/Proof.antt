@@ -10,12 +10,8 @@ words-requires c κs = search needs
 put-size-requires : tie.Need-put-size-requires
 put-size-requires c κs = search needs
 
-same-length : tie.Need-same-length
-same-length c = search needs
-
 returns : tie.Need-returns
-returns c = record { outcome = measuredOf (c .before .before .before .before .words .result); measures = c .before .before .before .before .words .ensures; tells = c .put-size .ensures }
+returns c = record { outcome = measuredOf (c .before .before .words .result); measures = c .before .before .words .ensures; tells = c .put-size .ensures }
 
 pub delta-null-word-size-spec : {M : Type 1} → statement M
-delta-null-word-size-spec =
-    tie.close (tie.spec words-requires put-size-requires same-length returns)
+delta-null-word-size-spec = tie.close (tie.spec words-requires put-size-requires returns)

@@ -55,6 +55,11 @@ same-length-3 c = search needs
 returns-3 : tie.Need-returns-3
 returns-3 c = (requests.intern-full (sought (c .before .before .before)) (c .before .before .if1 .left) (inr (omega arith)), sym (rows-none _ _ _))
 
+size-word-requires : tie.Need-size-word-requires
+size-word-requires c κs =
+    let start = c .before .before .before .before .before .before .before .before .before .before in
+    (requests.intern-ok (sought (c .before .before .before .before)), start .pre .0 .0 .sizes, start .pre .0 .0 .room)
+
 store-requires : tie.Need-store-requires
 store-requires c κs = search needs
 
@@ -64,22 +69,24 @@ add-link c = search needs
 link-requires : tie.Need-link-requires
 link-requires c κs = search needs
 
-add-t20 : tie.Need-add-t20
-add-t20 c = search needs
+add-t23 : tie.Need-add-t23
+add-t23 c = search needs
 
-add-t21 : tie.Need-add-t21
-add-t21 c = search needs
+add-t24 : tie.Need-add-t24
+add-t24 c = search needs
 
 same-length-4 : tie.Need-same-length-4
 same-length-4 c = search needs
 
 returns-4 : tie.Need-returns-4
 returns-4 c =
-    let after = c .before .before .before .before .before .before .before .before .before in
-    let room = c .before .before .before .before .before .before .before .if2 .left in
+    let after = c .before .before .before .before .before .before .before .before .before .before .before in
+    let left = c .before .before .before .before .before .before .before .before .before .before .if1 .left in
+    let room = c .before .before .before .before .before .before .before .before .before .if2 .left in
+    let size = c .before .before .before .before .before .before .size-word in
     let new = c .before .before .before .before .store .ensures in (
-      requests.intern-new (sought after) (c .before .before .before .before .before .before .before .before .if1 .left) (search needs) room new,
-      requests.intern-linked (sought after) room new _ (c .link .ensures),
+      requests.intern-new (sought after) left (search needs) room (size .result) (size .ensures) new,
+      requests.intern-linked (sought after) room (size .result) new _ (c .link .ensures),
     )
 
 pub intern-spec : {M : Type 1} → statement M
@@ -97,10 +104,11 @@ intern-spec =
     returns-2
     same-length-3
     returns-3
+    size-word-requires
     store-requires
     add-link
     link-requires
-    add-t20
-    add-t21
+    add-t23
+    add-t24
     same-length-4
     returns-4)

@@ -7,10 +7,10 @@ use Rattle.types.proofs.put_fixed_rows.Statement.{statement}
 use Rattle.types.proofs.put_fixed_rows.Tie as tie
 
 abbrev Inv-loop : tie.InvT-loop
-Inv-loop rows₀ i₀ rows i = (i ≤ fixedLength) × fixed.Copied rows₀ i rows
+Inv-loop rows₀ words i₀ rows i = (i ≤ fixedLength) × fixed.Copied rows₀ i rows
 
 abbrev μ-loop : tie.MeasureT-loop
-μ-loop rows₀ i₀ rows i = fixedLength - i
+μ-loop rows₀ words i₀ rows i = fixedLength - i
 
 loop-holds : tie.Need-loop-holds Inv-loop μ-loop
 loop-holds c = (search needs, search fixed.copied-none)

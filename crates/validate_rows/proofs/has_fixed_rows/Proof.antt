@@ -11,10 +11,10 @@ use Rattle.validate_rows.proofs.has_fixed_rows.Statement.{statement}
 use Rattle.validate_rows.proofs.has_fixed_rows.Tie as tie
 
 abbrev Inv-loop : tie.InvT-loop
-Inv-loop rows i₀ i = (i ≤ fixedLength) × ((k : ℕ) → k < i → getD rows k 0 ≡ getD fixedWords k 0)
+Inv-loop rows fixed i₀ i = (i ≤ fixedLength) × ((k : ℕ) → k < i → getD rows k 0 ≡ getD fixedWords k 0)
 
 abbrev μ-loop : tie.MeasureT-loop
-μ-loop rows i₀ i = fixedLength - i
+μ-loop rows fixed i₀ i = fixedLength - i
 
 loop-holds : tie.Need-loop-holds Inv-loop μ-loop
 loop-holds c = (search needs, below-none _)

@@ -45,14 +45,20 @@ is-row-requires c κs = search needs
 returns-4 : tie.Need-returns-4 Inv-loop μ-loop
 returns-4 c = search laws.row-wrong
 
+has-size-requires : tie.Need-has-size-requires Inv-loop μ-loop
+has-size-requires c κs = ((laws.row-rules _ _ _ (c .before .before .row-at .ensures) _ (c .before .is-row .ensures) (c .if4 .left), c .before .before .before .before .loop .inv .1 .sizes, search needs), search needs)
+
+returns-5 : tie.Need-returns-5 Inv-loop μ-loop
+returns-5 c = search laws.size-wrong
+
 highest-part-requires : tie.Need-highest-part-requires Inv-loop μ-loop
 highest-part-requires c κs = search needs
 
 find-twin-requires : tie.Need-find-twin-requires Inv-loop μ-loop
-find-twin-requires c κs = (c .before .before .before .before .before .before .loop .inv .2, (omega (arith, laws.parts-low _ _ _ (c .before .before .before .before .row-at .ensures) _ (c .before .before .before .is-row .ensures) (c .before .before .if4 .left) _ (c .before .highest-part .ensures)), search needs, c .before .before .before .before .before .before .loop .inv .1 .distinct))
+find-twin-requires c κs = (c .before .before .before .before .before .before .before .before .loop .inv .2, (omega (arith, laws.parts-low _ _ _ (c .before .before .before .before .before .before .row-at .ensures) _ (c .before .before .before .before .before .is-row .ensures) (c .before .before .before .before .if4 .left) _ (c .before .highest-part .ensures)), search needs, c .before .before .before .before .before .before .before .before .loop .inv .1 .distinct))
 
-returns-5 : tie.Need-returns-5 Inv-loop μ-loop
-returns-5 c = search laws.row-twice
+returns-6 : tie.Need-returns-6 Inv-loop μ-loop
+returns-6 c = search laws.row-twice
 
 add-link : tie.Need-add-link Inv-loop μ-loop
 add-link c = search needs
@@ -67,10 +73,10 @@ loop-less : tie.Need-loop-less Inv-loop μ-loop
 loop-less c = search needs
 
 loop-again : tie.Need-loop-again Inv-loop μ-loop
-loop-again c = (search needs, laws.rows-more _ _ _ (c .before .before .before .before .before .before .before .before .row-at .ensures) _ (c .before .before .before .before .before .before .before .is-row .ensures) (c .before .before .before .before .before .before .before .before .before .before .loop .inv .1) (c .before .before .before .before .before .before .if4 .left) _ (c .before .before .before .before .before .highest-part .ensures) _ (c .before .before .before .find-twin .ensures) (c .before .before .if5 .left), laws.index-more (c .before .before .before .before .before .before .before .before .row-at .ensures) (c .before .before .before .before .before .before .before .before .before .before .loop .inv .2) (c .link .ensures))
+loop-again c = (search needs, laws.rows-more _ _ _ (c .before .before .before .before .before .before .before .before .before .before .row-at .ensures) _ (c .before .before .before .before .before .before .before .before .before .is-row .ensures) (c .before .before .before .before .before .before .before .before .before .before .before .before .loop .inv .1) (c .before .before .before .before .before .before .before .before .if4 .left) _ (c .before .before .before .before .before .before .before .has-size .ensures) (c .before .before .before .before .before .before .if5 .left) _ (c .before .before .before .before .before .highest-part .ensures) _ (c .before .before .before .find-twin .ensures) (c .before .before .if6 .left), laws.index-more (c .before .before .before .before .before .before .before .before .before .before .row-at .ensures) (c .before .before .before .before .before .before .before .before .before .before .before .before .loop .inv .2) (c .link .ensures))
 
-returns-6 : tie.Need-returns-6 Inv-loop μ-loop
-returns-6 c = search laws.rows-all
+returns-7 : tie.Need-returns-7 Inv-loop μ-loop
+returns-7 c = search laws.rows-all
 
 pub is-table-spec : {M : Type 1} → statement M
 is-table-spec =
@@ -88,12 +94,14 @@ is-table-spec =
     row-at-requires
     is-row-requires
     returns-4
+    has-size-requires
+    returns-5
     highest-part-requires
     find-twin-requires
-    returns-5
+    returns-6
     add-link
     link-requires
     add-m
     loop-less
     loop-again
-    returns-6)
+    returns-7)

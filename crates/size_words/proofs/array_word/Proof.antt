@@ -1,11 +1,11 @@
-use native.Mathlib.Nat.{mul-le-mul, le-pred-of-lt}
-use native.Mathlib.Omega.{arith}
+-- `size_words::array_word` meets its contract.
+use Rattle.size_words.proofs.Capped as capped
 use borrow.Author.Needs.{needs}
-use Rattle.relations.proofs.array_word.Statement.{statement}
-use Rattle.relations.proofs.array_word.Tie as tie
+use Rattle.size_words.proofs.array_word.Statement.{statement}
+use Rattle.size_words.proofs.array_word.Tie as tie
 
 mul-capped-words : tie.Need-mul-capped-words
-mul-capped-words c = let p = mul-le-mul (le-pred-of-lt (c .fits .size .fits)) (le-pred-of-lt (c .fits .element .fits)) in omega arith
+mul-capped-words c = record { fits = capped.product-fits _ _ (search needs) (search needs) }
 
 capped-words-requires : tie.Need-capped-words-requires
 capped-words-requires c κs = search needs

@@ -1,6 +1,7 @@
+-- `size_words::known_word` meets its contract.
 use borrow.Author.Tests.{eq-eqb, ne-eqb}
-use Rattle.relations.proofs.known_word.Statement.{statement}
-use Rattle.relations.proofs.known_word.Tie as tie
+use Rattle.size_words.proofs.known_word.Statement.{statement}
+use Rattle.size_words.proofs.known_word.Tie as tie
 
 returns : tie.Need-returns
 returns c = rw (eq-eqb (c .before .args .first) 65537 (c .if1 .taken))

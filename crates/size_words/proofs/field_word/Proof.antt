@@ -1,6 +1,7 @@
+-- `size_words::field_word` meets its contract.
 use borrow.Author.Needs.{needs}
-use Rattle.relations.proofs.field_word.Statement.{statement}
-use Rattle.relations.proofs.field_word.Tie as tie
+use Rattle.size_words.proofs.field_word.Statement.{statement}
+use Rattle.size_words.proofs.field_word.Tie as tie
 
 add-capped-words : tie.Need-add-capped-words
 add-capped-words c = search needs
