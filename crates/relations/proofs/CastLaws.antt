@@ -2,14 +2,16 @@
 use Prim.Native.Nat.{ℕ, _+_}
 use mathlib.Core.Path.{_≡_, refl, sym, ap, _∙_}
 use mathlib.Core.List.{List, [], _∷_, _++_, map}
-use mathlib.Core.Bool.{Bool, true, false, _&&_, _||_, or-assoc}
+use mathlib.Core.Bool.{Bool, true, false, not, _&&_, _||_, or-assoc, or-false, and-false}
+use native.Mathlib.Omega.{arith}
 use borrow.Author.Tests.{eq-eqb, ne-eqb, eqb-true, eqb-false}
 use lib.Dec.{eqb}
-use Rattle.types.specs.Ty.{Ty, end, node, is, kindOf, firstOf, same, desugar, distinctKind}
+use Rattle.types.specs.Ty.{Ty, end, node, is, kindOf, firstOf, same, desugar, stripTo, distinctKind}
 use Rattle.types.specs.Table.{Table, unfolded}
 use Rattle.types.specs.Post.{TypePart}
 use Rattle.relations.specs.Relations.{Pair, pair, strips, castPairs, castKinds, castFits, someFits, isCastableTo}
 use Rattle.types.proofs.Laws.{injective, same-refl, same-false}
+use Rattle.types.proofs.Query.{desugar-other}
 
 fits-append : (l m : List Pair) → someFits (l ++ m) ≡ (someFits l || someFits m)
 unfolding someFits
@@ -53,19 +55,38 @@ module _ (searched test : Ty → Bool) (turn : (t : Ty) → searched t ≡ (test
     strip-goes-on : k ≡ distinctKind → (u : Ty) → u ≡ firstOf t → searched u ≡ answer
     strip-goes-on distinct u e = sym (sym means ∙ turn t ∙ rw (← tested, miss, ← k-is, eq-eqb k distinctKind distinct, ← e))
 
+-- Of the strips of the target, one that is a distinct alias fits only if the source desugars to it
+distinct-kinds : (j : ℕ) → castKinds j distinctKind ≡ false
+distinct-kinds j = simp (and-false, or-false)
+
+distinct-fits : (source : Ty) (k : ℕ) (a b : Ty) (s n : ℕ) → k ≡ distinctKind → castFits (pair source (node k a b s n)) ≡ same (desugar source) (node k a b s n)
+distinct-fits source k a b s n e =
+    let kinds : castKinds (kindOf source) k ≡ false = ap (castKinds (kindOf source)) e ∙ distinct-kinds (kindOf source) in
+    let plain : desugar (node k a b s n) ≡ node k a b s n = desugar-other (node k a b s n) (λ h. omega arith) in
+    λ i. kinds i || same (desugar source) (plain i)
+
+target-strip : (source t : Ty) → targetFits source t ≡ castFits (pair source (stripTo (desugar source) t))
+unfolding someFits strips stripTo
+target-strip source end = or-false (castFits (pair source end))
+target-strip source (node k a b s n) = target-turn source (node k a b s n) ∙ go (target-strip source a) (eqb k distinctKind) refl (same (desugar source) (node k a b s n)) refl
+  where
+    go : targetFits source a ≡ castFits (pair source (stripTo (desugar source) a)) → (d : Bool) → eqb k distinctKind ≡ d → (c : Bool) → same (desugar source) (node k a b s n) ≡ c
+        → (castFits (pair source (node k a b s n)) || (eqb k distinctKind && targetFits source a)) ≡ castFits (pair source (stripTo (desugar source) (node k a b s n)))
+    go inner false e c q = rw e (or-false (castFits (pair source (node k a b s n))))
+    go inner true e true q =
+        let fits = distinct-fits source k a b s n (eqb-true k distinctKind e) ∙ q in
+        rw (e, q) ((λ i. fits i || targetFits source a) ∙ sym fits)
+    go inner true e false q =
+        let not-fits = distinct-fits source k a b s n (eqb-true k distinctKind e) ∙ q in
+        rw (e, q) ((λ i. not-fits i || targetFits source a) ∙ inner)
+
+pub target-told : (w : List ℕ) (count source target from to : ℕ) → TypePart w count (source + 1) (desugar (unfolded w source)) from
+    → TypePart w count (target + 1) (stripTo (unfolded w from) (unfolded w target)) to → (r : Bool) → r ≡ castFits (pair (unfolded w source) (unfolded w to))
+    → r ≡ targetFits (unfolded w source) (unfolded w target)
+target-told w count source target from to f t r e =
+    e ∙ ap (λ (u : Ty). castFits (pair (unfolded w source) u)) (t .type ∙ ap (λ (u : Ty). stripTo u (unfolded w target)) (f .type)) ∙ sym (target-strip (unfolded w source) (unfolded w target))
+
 module _ (w : List ℕ) (count source target : ℕ) (answer found : Bool) where
-  module _ (means : targetFits (unfolded w source) (unfolded w target) ≡ answer) (tested : found ≡ castFits (pair (unfolded w source) (unfolded w target))) where
-    pub target-fits : found ≡ true → true ≡ answer
-    target-fits = strip-fits (targetFits (unfolded w source)) (λ t. castFits (pair (unfolded w source) t)) (target-turn (unfolded w source)) (unfolded w target) answer means found tested
-
-    module _ (miss : found ≡ false) (k : ℕ) (k-is : k ≡ kindOf (unfolded w target)) where
-      pub target-ends : (k ≡ distinctKind → ⊥) → false ≡ answer
-      target-ends = strip-ends (targetFits (unfolded w source)) (λ t. castFits (pair (unfolded w source) t)) (target-turn (unfolded w source)) (unfolded w target) answer means found tested miss k k-is
-
-      pub target-goes-on : k ≡ distinctKind → (next : ℕ) → TypePart w count target (firstOf (unfolded w target)) next → targetFits (unfolded w source) (unfolded w next) ≡ answer
-      target-goes-on distinct next part =
-          strip-goes-on (targetFits (unfolded w source)) (λ t. castFits (pair (unfolded w source) t)) (target-turn (unfolded w source)) (unfolded w target) answer means found tested miss k k-is distinct (unfolded w next) (part .type)
-
   module _ (means : isCastableTo (unfolded w source) (unfolded w target) ≡ answer) (tested : found ≡ targetFits (unfolded w source) (unfolded w target)) where
     pub source-fits : found ≡ true → true ≡ answer
     source-fits = strip-fits (λ t. isCastableTo t (unfolded w target)) (λ t. targetFits t (unfolded w target)) (source-turn (unfolded w target)) (unfolded w source) answer means found tested

@@ -107,21 +107,15 @@ fn cast_fits(rows: &[u32], count: u32, source: u32, target: u32) -> bool
     from == to
 }
 
-// Whether source, as it stands, fits with some strip of target.
+// Whether source, as it stands, fits with some strip of target. A strip that is a distinct alias fits only if source
+// desugars to it.
 fn target_strip_fits(rows: &[u32], count: u32, source: u32, target: u32) -> bool
     requires { ⌜ TwoTypes (now rows) count source target ⌝ }
     ensures { λ r. ⌜ r ≡ someFits (map (pair (unfolded (old rows) source)) (strips (unfolded (old rows) target))) ⌝ }
 {
-    let mut to = target;
-    loop {
-        if cast_fits(rows, count, source, to) {
-            return true;
-        }
-        if types::kind(rows, count, to) != types::DISTINCT_ALIAS {
-            return false;
-        }
-        to = types::part(rows, count, to);
-    }
+    let from = types::desugar(rows, count, source);
+    let to = types::strip_to(rows, count, target, from);
+    cast_fits(rows, count, source, to)
 }
 
 // Whether a value of the type source may be cast to the type target.

@@ -13,10 +13,13 @@ rowWidth = 5
 abbrev pub words : (kind first second name : ℕ) → Words
 words k f s n = record { kind = k; first = f; second = s; name = n }
 
--- Those of row n of the table w
+-- Those of the row that begins at a place of the table w
+abbrev pub rowFrom : List ℕ → (place : ℕ) → Words
+rowFrom w place = words (getD w place 0) (getD w (place + 1) 0) (getD w (place + 2) 0) (getD w (place + 3) 0)
+
+-- Those of row n
 abbrev pub rowAt : List ℕ → ℕ → Words
-rowAt w n =
-    words (getD w (rowWidth * n - rowWidth) 0) (getD w (rowWidth * n - rowWidth + 1) 0) (getD w (rowWidth * n - rowWidth + 2) 0) (getD w (rowWidth * n - rowWidth + 3) 0)
+rowAt w n = rowFrom w (rowWidth * n - rowWidth)
 
 -- The fifth word of row n: its size
 abbrev pub sizeWordAt : List ℕ → ℕ → ℕ

@@ -3,7 +3,7 @@ ghost use mathlib.Core.Path.{_≡_};
 ghost use Prim.Native.Nat.{_+_, _*_, _≤_, _<_};
 ghost use lib.ListN.{length};
 ghost use Rattle.contract.specs.Moments.{old, final};
-ghost use Rattle.rows.specs.Row.{words, rowWidth, rowAt, sizeWordAt, stored};
+ghost use Rattle.rows.specs.Row.{words, rowWidth, rowFrom, rowAt, sizeWordAt, stored};
 ghost use Rattle.rows.specs.Search.{Decides, KeyOf, NoneWith, Skipped, NextWith, Found};
 
 // Words in a row.
@@ -41,12 +41,19 @@ pub fn row_at(rows: &[u32], n: u32) -> Words
     requires { ⌜ (1 ≤ n) × (rowWidth * n ≤ length (now rows)) ⌝ }
     ensures { λ r. ⌜ r ≡ rowAt (old rows) n ⌝ }
 {
-    let at = ROW_WIDTH * (n as usize) - ROW_WIDTH;
+    row_from(rows, ROW_WIDTH * (n as usize) - ROW_WIDTH)
+}
+
+// Those of the row that begins at this place.
+pub fn row_from(rows: &[u32], place: usize) -> Words
+    requires { ⌜ place + rowWidth ≤ length (now rows) ⌝ }
+    ensures { λ r. ⌜ r ≡ rowFrom (old rows) place ⌝ }
+{
     Words {
-        kind: rows[at],
-        first: rows[at + 1],
-        second: rows[at + 2],
-        name: rows[at + 3],
+        kind: rows[place],
+        first: rows[place + 1],
+        second: rows[place + 2],
+        name: rows[place + 3],
     }
 }
 

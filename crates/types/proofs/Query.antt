@@ -1,17 +1,17 @@
 -- What is read of a row is what the row unfolded has.
-use Prim.Native.Nat.{ℕ, suc, _+_, _-_, _≤_, _<_}
+use Prim.Native.Nat.{ℕ, suc, _+_, _-_, _*_, _≤_, _<_}
 use mathlib.Core.Path.{_≡_, refl, sym, ap, _∙_, subst}
 use mathlib.Core.List.{List}
-use mathlib.Core.Bool.{Bool, true, false, cond}
+use mathlib.Core.Bool.{Bool, true, false, cond, and-false}
 use mathlib.Core.Logic.{_⊎_, inl, inr, ⊎-elim}
 use native.Mathlib.Omega.{arith}
 use native.Mathlib.Nat.{le-suc-iff}
 use borrow.Author.Tests.{eq-eqb, ne-eqb, eqb-false, le-ltb}
 use lib.Dec.{eqb}
-use Rattle.types.specs.Ty.{Ty, end, node, kindOf, firstOf, secondOf, sizeOf, nameOf, desugar, removeAliasing}
-use Rattle.types.specs.Table.{Words, rowAt, build, unfolded, Table, RowOk, IsType, IsCell}
+use Rattle.types.specs.Ty.{Ty, end, node, kindOf, firstOf, secondOf, sizeOf, nameOf, same, desugar, removeAliasing, stripTo}
+use Rattle.types.specs.Table.{Words, rowWidth, rowFrom, rowAt, build, unfolded, Table, RowOk, IsType, IsCell}
 use Rattle.types.specs.Post.{HasTypePart, TypePart, CellPart}
-use Rattle.types.proofs.Laws.{unfolded-row, row-ok, first-lower}
+use Rattle.types.proofs.Laws.{unfolded-row, row-ok, first-lower, same-refl, same-false, injective}
 
 -- Aliases stripped
 
@@ -146,6 +146,10 @@ module _ (w : List ℕ) (count : ℕ) (t : Table w count) (n : ℕ) (low : 1 ≤
   pub read-rest : 12 ≤ kindOf (unfolded w n) → CellPart w count n (kindOf (unfolded w n)) (secondOf (unfolded w n)) (r .second)
   read-rest l = subst (λ (k : ℕ). CellPart w count n k (secondOf (unfolded w n)) (r .second)) read-kind (read-rest-as (omega (arith, read-kind)))
 
+-- The words at a row's place are the row's
+pub row-placed : (w : List ℕ) (at place : ℕ) → place ≡ rowWidth * at - rowWidth → (r : Words) → r ≡ rowFrom w place → r ≡ rowAt w at
+row-placed w at place p r e = e ∙ ap (rowFrom w) p
+
 -- A row on the way from row n to what `strip` leaves of it
 pub record Stripping (strip : Ty → Ty) (w : List ℕ) (count n at : ℕ) : Type 0 where
   pub is : IsType w count at
@@ -193,3 +197,39 @@ module _ (w : List ℕ) (count n : ℕ) (t : Table w count) (at : ℕ) where
         kinds =
             let h : kindOf (unfolded w at) ≤ suc 10 = type-kind w count t at (s .is) in
             ⊎-elim (λ (b : kindOf (unfolded w at) ≤ 10). inl (omega (arith, kind-there))) (λ (q : kindOf (unfolded w at) ≡ 11). inr q) (le-suc-iff .0 h)
+
+-- The type that is wanted, one that is no distinct alias, and another distinct alias
+strip-to-here : (wanted t : Ty) → wanted ≡ t → stripTo wanted t ≡ t
+unfolding stripTo
+strip-to-here wanted end e = refl
+strip-to-here wanted (node k a b s n) e =
+    let q : same wanted (node k a b s n) ≡ true = ap (same wanted) (sym e) ∙ same-refl wanted in
+    rw q (simp and-false)
+
+pub strip-to-other : (wanted t : Ty) → (kindOf t ≡ 11 → ⊥) → stripTo wanted t ≡ t
+unfolding stripTo
+strip-to-other wanted end ne = refl
+strip-to-other wanted (node k a b s n) ne = rw (ne-eqb k 11 ne)
+
+pub strip-to-next : (wanted t : Ty) → kindOf t ≡ 11 → same wanted t ≡ false → stripTo wanted t ≡ stripTo wanted (firstOf t)
+unfolding stripTo
+strip-to-next wanted end e q = refl
+strip-to-next wanted (node k a b s n) e q = rw (eq-eqb k 11 e, q)
+
+module _ (w : List ℕ) (count n wanted : ℕ) (t : Table w count) (at : ℕ) (s : Stripping (stripTo (unfolded w wanted)) w count n at) where
+  pub to-wanted : at ≡ wanted → TypePart w count (n + 1) (stripTo (unfolded w wanted) (unfolded w n)) at
+  to-wanted e = strip-done (stripTo (unfolded w wanted)) w count n at s (strip-to-here (unfolded w wanted) (unfolded w at) (ap (unfolded w) (sym e)))
+
+  module _ (r : Words) (e : r ≡ rowAt w at) where
+    distinct-at : kindOf (unfolded w at) ≡ r .kind
+    distinct-at = sym (read-kind w count t at (s .is .low) (s .is .high) r e)
+
+    pub to-other : (r .kind ≡ 11 → ⊥) → TypePart w count (n + 1) (stripTo (unfolded w wanted) (unfolded w n)) at
+    to-other ne =
+        strip-done (stripTo (unfolded w wanted)) w count n at s (strip-to-other (unfolded w wanted) (unfolded w at) (λ k. ne (sym distinct-at ∙ k)))
+
+    pub to-next : wanted ≤ count → (at ≡ wanted → ⊥) → r .kind ≡ 11 → Stripping (stripTo (unfolded w wanted)) w count n (r .first)
+    to-next h ne k =
+        strip-next (stripTo (unfolded w wanted)) w count n t at s r e (omega arith)
+        (strip-to-next (unfolded w wanted) (unfolded w at) (distinct-at ∙ k)
+        (same-false _ _ (λ q. ne (sym (injective w count t wanted at h (s .is .high) q)))))

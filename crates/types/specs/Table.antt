@@ -10,7 +10,7 @@ use Rattle.types.specs.Ty.{Ty, end, node, same, unknownKind, voidKind, b
 use Rattle.types.specs.Ty.{arrayKind, structKind, functionKind, aliasKind, distinctKind, fieldKind, argumentKind}
 use Rattle.types.specs.Ty.{stringName}
 pub use Rattle.rows.specs.declared.Words.{Words}
-pub use Rattle.rows.specs.Row.{rowWidth, words, rowAt, sizeWordAt, Distinct}
+pub use Rattle.rows.specs.Row.{rowWidth, words, rowFrom, rowAt, sizeWordAt, Distinct}
 pub use Rattle.rows.specs.Search.{Decides}
 use Rattle.size_words.specs.SizeWords.{unknownWord}
 use Rattle.types.specs.WordSize.{sizeWord}

@@ -2,7 +2,7 @@
 -- One node serves every kind, so that a definition over types has two clauses. A row's fifth word is no part of it: it follows from the
 -- others (`sizeWord`), so rows that unfold to the same have the same (`same-size`).
 use Prim.Native.Nat.{ℕ, suc, _+_}
-use mathlib.Core.Bool.{Bool, true, false, cond, _&&_, _||_}
+use mathlib.Core.Bool.{Bool, true, false, cond, not, _&&_, _||_}
 use mathlib.Core.List.{List, [], _∷_, _++_}
 use mathlib.Core.Option.{Option, none, some}
 use lib.Dec.{eqb}
@@ -159,6 +159,11 @@ desugar (node k a b s n) = cond (eqb k aliasKind) (desugar a) (node k a b s n)
 unfoldable pub removeAliasing : Ty → Ty
 removeAliasing end = end
 removeAliasing (node k a b s n) = cond (eqb k aliasKind || eqb k distinctKind) (removeAliasing a) (node k a b s n)
+
+-- Distinct aliases stripped at the top, as far as the type that is wanted
+unfoldable pub stripTo : (wanted : Ty) → Ty → Ty
+stripTo wanted end = end
+stripTo wanted (node k a b s n) = cond (eqb k distinctKind && not (same wanted (node k a b s n))) (stripTo wanted a) (node k a b s n)
 
 -- A type, its parts and their list cells: the rows that it needs
 unfoldable pub parts : Ty → List Ty

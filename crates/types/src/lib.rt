@@ -3,6 +3,7 @@
 use rows::ROW_WIDTH;
 use rows::Words;
 use rows::row_at;
+use rows::row_from;
 use rows::size_word_at;
 use rows::store;
 use size_words::UNKNOWN_WORD;
@@ -14,7 +15,7 @@ ghost use Prim.Native.Nat.{_+_, _*_, _≤_, _<_};
 ghost use lib.ListN.{length};
 ghost use Rattle.contract.specs.Moments.{old, final};
 ghost use Rattle.row_index.specs.Index.{RowsIndexed, withRows};
-ghost use Rattle.types.specs.Ty.{kindOf, firstOf, secondOf, sizeOf, nameOf, desugar as desugared, removeAliasing};
+ghost use Rattle.types.specs.Ty.{kindOf, firstOf, secondOf, sizeOf, nameOf, desugar as desugared, removeAliasing, stripTo};
 ghost use Rattle.types.specs.Ty.{cellCount, fieldNamed, arrayKind, structKind, functionKind, fieldKind};
 ghost use Rattle.types.specs.Ty.{argumentKind};
 ghost use Rattle.types.specs.WordSize.{sizeWord};
@@ -144,6 +145,14 @@ pub fn name(rows: &[u32], count: u32, n: u32) -> u32
     row.name
 }
 
+// The size of row n: how many words its type has, or a word that stands for no number.
+pub fn words(rows: &[u32], count: u32, n: u32) -> u32
+    requires { ⌜ Table (now rows) count × (1 ≤ n) × (n ≤ count) ⌝ }
+    ensures { λ r. ⌜ r ≡ sizeWord (unfolded (old rows) n) ⌝ }
+{
+    size_word_at(rows, n)
+}
+
 // The size of an array.
 pub fn size(rows: &[u32], count: u32, n: u32) -> u32
     requires { ⌜ Table (now rows) count × (1 ≤ n) × (n ≤ count) × (kindOf (unfolded (now rows) n) ≡ arrayKind) ⌝ }
@@ -190,6 +199,9 @@ pub fn rest(rows: &[u32], count: u32, n: u32) -> u32
     cell.second
 }
 
+// The five below follow rows, of which most point to the row before. As long as one does, the inner loop goes on there
+// by its place alone, which need not wait for the word that was read (docs/DECISIONS.md, 91).
+
 // The type of the first field of that name in a struct, or 0.
 pub fn field_named(rows: &[u32], count: u32, n: u32, name: u32) -> u32
     requires { ⌜ Table (now rows) count × (1 ≤ n) × (n ≤ count) × (kindOf (unfolded (now rows) n) ≡ structKind) ⌝ }
@@ -197,11 +209,22 @@ pub fn field_named(rows: &[u32], count: u32, n: u32, name: u32) -> u32
 {
     let mut cell = fields(rows, count, n);
     while cell != 0 {
-        let row = row_at(rows, cell);
-        if row.name == name {
-            return row.first;
+        let mut place = ROW_WIDTH * (cell as usize) - ROW_WIDTH;
+        loop {
+            let row = row_from(rows, place);
+            if row.name == name {
+                return row.first;
+            }
+            let before = cell - 1;
+            cell = row.second;
+            if cell != before {
+                break;
+            }
+            if cell == 0 {
+                break;
+            }
+            place -= ROW_WIDTH;
         }
-        cell = row.second;
     }
     0
 }
@@ -214,19 +237,22 @@ pub fn cell_count(rows: &[u32], count: u32, cell: u32) -> u32
     let mut at = cell;
     let mut cells: u32 = 0;
     while at != 0 {
-        let row = row_at(rows, at);
-        cells += 1;
-        at = row.second;
+        let mut place = ROW_WIDTH * (at as usize) - ROW_WIDTH;
+        loop {
+            let row = row_from(rows, place);
+            cells += 1;
+            let before = at - 1;
+            at = row.second;
+            if at != before {
+                break;
+            }
+            if at == 0 {
+                break;
+            }
+            place -= ROW_WIDTH;
+        }
     }
     cells
-}
-
-// The size of row n: how many words its type has, or a word that stands for no number.
-pub fn words(rows: &[u32], count: u32, n: u32) -> u32
-    requires { ⌜ Table (now rows) count × (1 ≤ n) × (n ≤ count) ⌝ }
-    ensures { λ r. ⌜ r ≡ sizeWord (unfolded (old rows) n) ⌝ }
-{
-    size_word_at(rows, n)
 }
 
 // Row n with its transparent aliases stripped at the top.
@@ -236,11 +262,19 @@ pub fn desugar(rows: &[u32], count: u32, n: u32) -> u32
 {
     let mut at = n;
     loop {
-        let row = row_at(rows, at);
-        if row.kind != ALIAS {
-            return at;
+        let mut place = ROW_WIDTH * (at as usize) - ROW_WIDTH;
+        loop {
+            let row = row_from(rows, place);
+            if row.kind != ALIAS {
+                return at;
+            }
+            let before = at - 1;
+            at = row.first;
+            if at != before {
+                break;
+            }
+            place -= ROW_WIDTH;
         }
-        at = row.first;
     }
 }
 
@@ -251,11 +285,45 @@ pub fn remove_aliasing(rows: &[u32], count: u32, n: u32) -> u32
 {
     let mut at = n;
     loop {
-        let row = row_at(rows, at);
-        if row.kind < ALIAS {
-            return at;
+        let mut place = ROW_WIDTH * (at as usize) - ROW_WIDTH;
+        loop {
+            let row = row_from(rows, place);
+            if row.kind < ALIAS {
+                return at;
+            }
+            let before = at - 1;
+            at = row.first;
+            if at != before {
+                break;
+            }
+            place -= ROW_WIDTH;
         }
-        at = row.first;
+    }
+}
+
+// Row n with its distinct aliases stripped at the top, as far as the row that is wanted.
+pub fn strip_to(rows: &[u32], count: u32, n: u32, wanted: u32) -> u32
+    requires { ⌜ Table (now rows) count × IsType (now rows) count n × (wanted ≤ count) ⌝ }
+    ensures { λ r. ⌜ TypePart (old rows) count (n + 1) (stripTo (unfolded (old rows) wanted) (unfolded (old rows) n)) r ⌝ }
+{
+    let mut at = n;
+    loop {
+        let mut place = ROW_WIDTH * (at as usize) - ROW_WIDTH;
+        loop {
+            if at == wanted {
+                return at;
+            }
+            let row = row_from(rows, place);
+            if row.kind != DISTINCT_ALIAS {
+                return at;
+            }
+            let before = at - 1;
+            at = row.first;
+            if at != before {
+                break;
+            }
+            place -= ROW_WIDTH;
+        }
     }
 }
 
