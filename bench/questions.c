@@ -5,21 +5,44 @@
 #include <stdlib.h>
 #include <time.h>
 
-#include "../include/delta_null_type_check.h"
+#include "delta_null_type_check.h" /* of the library that is measured */
 
 enum { FIXED = 7, MOST_ROWS = 24000, ROUNDS = 40, LEAST_ROUNDS = 3 };
-enum { U16 = 4, POINTER = 6, ARRAY = 7, STRUCT = 8, ALIAS = 10, DISTINCT = 11, FIELD = 12, STRING_NAME = 65535 };
+enum { UNKNOWN = 1, VOID = 2, U16 = 4, POINTER = 6, ARRAY = 7, STRUCT = 8, ALIAS = 10, DISTINCT = 11, FIELD = 12, STRING_NAME = 65535 };
 
 /* As long as these nanoseconds, more rounds than the least are made. */
 static const double LONG = 2e8;
 
 static const uint32_t counts[] = {375, 750, 1500, 3000, 6000, 12000, 24000};
-static uint32_t rows[MOST_ROWS * DELTA_NULL_ROW_WORDS], work[MOST_ROWS], count;
+static uint32_t rows[MOST_ROWS * DELTA_NULL_ROW_WORDS], count;
+
+#if DELTA_NULL_ROW_WORDS == 4
+/* Before rows had their size: word_size was lent a working word a row. */
+static uint32_t work[MOST_ROWS];
+#define word_size(rows, words, count, n, size) delta_null_word_size(rows, words, count, n, work, count, size)
+static void put_size(uint32_t *row) { (void)row; }
+#else
+#define word_size delta_null_word_size
+
+static uint32_t size_of(uint32_t number) { return number ? rows[(number - 1) * DELTA_NULL_ROW_WORDS + 4] : 0; }
+
+/* The size of a row of one of the kinds below. */
+static void put_size(uint32_t *row) {
+    uint64_t size = 1;
+    if (row[0] == UNKNOWN) size = DELTA_NULL_SIZE_UNKNOWN;
+    if (row[0] == VOID) size = 0;
+    if (row[0] == ARRAY) size = (uint64_t)row[2] * size_of(row[1]);
+    if (row[0] == FIELD) size = size_of(row[1]) + size_of(row[2]);
+    if (row[0] == STRUCT || row[0] == ALIAS || row[0] == DISTINCT) size = size_of(row[1]);
+    row[4] = row[0] != UNKNOWN && size > DELTA_NULL_SIZE_TOO_LARGE ? DELTA_NULL_SIZE_TOO_LARGE : size;
+}
+#endif
 
 static uint32_t add(uint32_t kind, uint32_t first, uint32_t second, uint32_t name) {
-    uint32_t *row = rows + count++ * DELTA_NULL_ROW_WORDS;
+    uint32_t *row = rows + count * DELTA_NULL_ROW_WORDS;
     row[0] = kind, row[1] = first, row[2] = second, row[3] = name;
-    return count;
+    put_size(row);
+    return ++count;
 }
 
 static void add_fixed(void) {
@@ -75,7 +98,7 @@ static double fastest(int of_size) {
     for (int round = 0; round < LEAST_ROUNDS || (round < ROUNDS && now() - start < LONG); round++) {
         uint32_t answer, before = count * DELTA_NULL_ROW_WORDS;
         double turn = now();
-        uint32_t refused = of_size ? delta_null_word_size(rows, before, count, U16, work, count, &answer)
+        uint32_t refused = of_size ? word_size(rows, before, count, U16, &answer)
                                    : delta_null_assignable(rows, before, count, U16, U16, &answer);
         double time = (now() - turn) / 1e3;
         if (refused || answer != 1) {

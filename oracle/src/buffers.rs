@@ -3,7 +3,7 @@
 use crate::{
     answer::{Answer, Error, Operand},
     layout::{self, Place, Record},
-    rows::{Row, Rows, STRING_NAME, kind},
+    rows::{ROW_WIDTH, Row, Rows, STRING_NAME, kind},
 };
 
 /// The little-endian words of a file.
@@ -14,14 +14,19 @@ pub fn words(bytes: &[u8]) -> Result<Vec<u32>, String> {
     Ok(bytes.chunks(4).map(|word| u32::from_le_bytes(word.try_into().unwrap())).collect())
 }
 
-/// The rows of a table, if it keeps every rule for rows that test 8 covers.
+/// The rows of a table, if it keeps every rule for rows that test 8 covers, that for the fifth word included.
 pub fn rows(words: &[u32]) -> Option<Rows> {
+    rows_but_sizes(words).filter(|rows| rows.row_words() == words)
+}
+
+/// The rows of a table, if it keeps every rule for the first four words of its rows.
+fn rows_but_sizes(words: &[u32]) -> Option<Rows> {
     let fixed = Rows::new();
     let mut rows = Rows::new();
-    if !words.len().is_multiple_of(4) || words.len() < 4 * fixed.count() {
+    if !words.len().is_multiple_of(ROW_WIDTH) || words.len() < ROW_WIDTH * fixed.count() {
         return None;
     }
-    for (i, words) in words.chunks(4).enumerate() {
+    for (i, words) in words.chunks(ROW_WIDTH).enumerate() {
         let number = i as u32 + 1;
         let row = Row { kind: words[0], first: words[1], second: words[2], name: words[3] };
         if i < fixed.count() {
@@ -65,7 +70,10 @@ fn row_operands(kind: u32) -> [bool; 3] {
 /// What a checker said that was given `input` and left `output`, row words and error words in use.
 pub fn answer(input: &[u8], output: &[u8], row_words: &[u32], error_words: &[u32]) -> Result<Answer, String> {
     let module = layout::read(input).map_err(|refusal| format!("the input is turned back: {refusal:?}"))?;
-    let rows = rows(row_words).ok_or("the rows break a rule")?;
+    let rows = rows_but_sizes(row_words).ok_or("the rows break a rule")?;
+    if let Some(place) = rows.row_words().iter().zip(row_words).position(|(a, b)| a != b) {
+        return Err(format!("row {} has the fifth word {}", place / ROW_WIDTH + 1, row_words[place]));
+    }
     let ty = |number: u32| match number {
         n if n == 0 || n as usize > rows.count() || rows.row(n).is_cell() => Err(format!("no type row: {n}")),
         n => Ok(n),

@@ -9,6 +9,8 @@ use crate::{
     model, orders,
     product::{FILL, Loans, Product, REPORT, Said},
     reference::{self, MOST_WORK, Silence},
+    relate,
+    rows::ROW_WIDTH,
     shrink,
     stats::Stats,
     tree::Random,
@@ -22,12 +24,14 @@ pub struct Truth {
     pub outcome: Result<(Module, Answer), Refusal>,
     /// Why the reference did not speak, where the model answered alone.
     pub silence: Option<Silence>,
+    /// For the words of how many of its types the reference was asked.
+    pub words_asked: usize,
 }
 
 /// What the reference and the model say of a file. Where both speak they must agree.
 pub fn truth(bytes: &[u8]) -> Result<Truth, String> {
     let module = match layout::read(bytes) {
-        Err(refusal) => return Ok(Truth { outcome: Err(refusal), silence: None }),
+        Err(refusal) => return Ok(Truth { outcome: Err(refusal), silence: None, words_asked: 0 }),
         Ok(module) => module,
     };
     let outcome = model::check(&module);
@@ -40,7 +44,8 @@ pub fn truth(bytes: &[u8]) -> Result<Truth, String> {
         Err(Silence::Broken(why)) => return Err(format!("the reference is broken: {why}")),
         Err(silence) => Some(silence),
     };
-    Ok(Truth { outcome: Ok((module, outcome.answer)), silence })
+    let words_asked = relate::ask_words(&outcome.answer.rows)?;
+    Ok(Truth { outcome: Ok((module, outcome.answer)), silence, words_asked })
 }
 
 /// The first line in which two texts differ.
@@ -66,7 +71,7 @@ impl Truth {
         };
         let number = if loans.output < bytes.len() || loans.work < 4 * module.names.len() {
             5
-        } else if loans.rows / 4 < answer.rows.count() {
+        } else if loans.rows / ROW_WIDTH < answer.rows.count() {
             6
         } else if loans.errors / 7 < answer.errors.len() {
             7
@@ -91,7 +96,7 @@ fn judge(bytes: &[u8], truth: &Truth, loans: Loans, said: &Said) -> Result<Optio
     let (used_output, used_rows, used_errors) = match (&truth.outcome, refusal) {
         (_, Some(refusal)) if refusal.number <= 5 => (0, 0, 0),
         (_, Some(_)) => (bytes.len(), loans.rows, loans.errors),
-        (Ok((_, answer)), None) => (bytes.len(), 4 * answer.rows.count(), 7 * answer.errors.len()),
+        (Ok((_, answer)), None) => (bytes.len(), ROW_WIDTH * answer.rows.count(), 7 * answer.errors.len()),
         (Err(_), None) => unreachable!("a refused module has a refusal"),
     };
     let expected = match (&truth.outcome, refusal) {
@@ -140,7 +145,7 @@ fn some_loans(bytes: &[u8], truth: &Truth, random: &mut Random) -> Loans {
     };
     Loans {
         output: about(bytes.len(), 4, 65_600, 3),
-        rows: about(4 * answer.rows.count(), 4, REPORT.rows, 12),
+        rows: about(ROW_WIDTH * answer.rows.count(), ROW_WIDTH, REPORT.rows, 12),
         errors: about(7 * answer.errors.len(), 7, REPORT.errors, 20),
         work: about(4 * module.names.len(), 4, REPORT.work, 3),
     }
@@ -160,6 +165,8 @@ struct Compare<'a> {
     judged: [usize; 4],
     /// How many of them are files of no bytes.
     no_bytes: usize,
+    /// For the words of how many types the reference was asked.
+    words_asked: usize,
     orders: usize,
     differences: usize,
 }
@@ -187,6 +194,7 @@ impl Compare<'_> {
     fn count(&mut self, bytes: &[u8], truth: &Truth, loans: Loans) {
         let number = truth.refusal(bytes, loans).map_or(0, |refusal| refusal.number);
         self.refused[number as usize] += 1;
+        self.words_asked += truth.words_asked;
         match &truth.outcome {
             Ok((module, answer)) => self.stats.add_good(bytes, module, answer),
             Err(refusal) => self.stats.add_refused(bytes, *refusal),
@@ -257,6 +265,7 @@ impl Compare<'_> {
         let [none, one, few, many] = self.judged;
         let _ = write!(text, "the reference judged {}: without items {none} ", none + one + few + many);
         let _ = writeln!(text, "(no bytes {}), with 1 item {one}, 2 to 4 {few}, 5 or more {many}", self.no_bytes);
+        let _ = writeln!(text, "the reference was asked for the words of {} types", self.words_asked);
         let [undecodable, large, late] = self.silent;
         let _ = writeln!(text, "the model alone: no UTF-8 {undecodable}, too large {large}, timeout {late}");
         text += &self.stats.missing();
@@ -307,6 +316,7 @@ pub fn compare(seed: u64, count: usize, program: &Path, folder: &Path) -> Result
         silent: [0; 3],
         judged: [0; 4],
         no_bytes: 0,
+        words_asked: 0,
         orders: 0,
         differences: 0,
     };

@@ -271,6 +271,7 @@ fn related(files: &[&str]) -> Done {
 }
 
 fn compared(seed: &str, count: &str, program: &str, folder: &str) -> Done {
+    without_panic_messages();
     let (differences, text) =
         compare::compare(number(seed)?, number(count)? as usize, Path::new(program), Path::new(folder))?;
     print!("{text}");
@@ -287,6 +288,7 @@ fn compared_relations(seed: &str, count: &str, program: &str, folder: &str) -> D
 
 /// Writes the cases of the replay and their names; prints what the program `replay` has to print.
 fn replayed(accepted: &str, refused: &str, data: &str, names: &str) -> Done {
+    without_panic_messages();
     let replay = replay::replay(number(accepted)? as usize, number(refused)? as usize)?;
     write(data, &replay.bytes)?;
     write(names, (replay.names.join("\n") + "\n").as_bytes())?;

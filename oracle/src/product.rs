@@ -14,7 +14,7 @@ use std::{
     time::Duration,
 };
 
-use crate::buffers::words;
+use crate::{buffers::words, rows::ROW_WIDTH};
 
 /// How much is lent: bytes of output, words of rows, errors and work.
 #[derive(Clone, Copy, Debug, PartialEq, Eq, Hash)]
@@ -26,10 +26,10 @@ pub struct Loans {
 }
 
 /// What the report program lends.
-pub const REPORT: Loans = Loans { output: 65_536, rows: 12_000, errors: 14_000, work: 16_376 };
+pub const REPORT: Loans = Loans { output: 65_536, rows: 3_000 * ROW_WIDTH, errors: 14_000, work: 16_376 };
 
 /// Room for 7,000 rows and 4,000 errors.
-pub const ROOMY: Loans = Loans { output: 65_536, rows: 28_000, errors: 28_000, work: 16_376 };
+pub const ROOMY: Loans = Loans { output: 65_536, rows: 7_000 * ROW_WIDTH, errors: 28_000, work: 16_376 };
 
 /// What stands in every lent word before a run.
 pub const FILL: u32 = 0xa5a5_a5a5;
@@ -50,32 +50,16 @@ pub struct Said {
 /// A question about a table of rows.
 #[derive(Clone, Copy, Debug, PartialEq, Eq)]
 pub enum Question {
-    Assignable {
-        target: u32,
-        source: u32,
-    },
-    Castable {
-        source: u32,
-        target: u32,
-    },
-    /// With so many working words lent.
-    WordSize {
-        n: u32,
-        work: usize,
-    },
+    Assignable { target: u32, source: u32 },
+    Castable { source: u32, target: u32 },
+    WordSize { n: u32 },
 }
 
-/// What is said to a question: 0 or the number of the refusal, the value, and the working words.
-#[derive(Clone, Debug, PartialEq, Eq)]
+/// What is said to a question: 0 or the number of the refusal, and the value.
+#[derive(Clone, Copy, Debug, PartialEq, Eq)]
 pub struct Reply {
     pub number: u32,
     pub value: u32,
-    pub work: Vec<u32>,
-}
-
-/// The working words before a question.
-pub fn work_before(length: usize) -> Vec<u32> {
-    (0..length as u32).map(|i| FILL.wrapping_add(i)).collect()
 }
 
 /// How long the product may take for one module, or for the questions about one table.
@@ -135,7 +119,7 @@ impl Product {
 /// The product as a static library, as `rt staticlib` makes it: a slice is a pointer and a length.
 #[cfg(linked)]
 mod linked {
-    use super::{FILL, LIMIT, Loans, Question, ROOMY, Reply, Said, work_before};
+    use super::{FILL, LIMIT, Loans, Question, ROOMY, Reply, Said};
     use std::{sync::mpsc, thread};
 
     unsafe extern "C" {
@@ -176,15 +160,7 @@ mod linked {
         ) -> u32;
 
         /// 0 with the size, or the number of the refusal.
-        fn delta_null_word_size(
-            rows: *const u32,
-            rows_len: usize,
-            count: u32,
-            n: u32,
-            work: *mut u32,
-            work_len: usize,
-            size: *mut u32,
-        ) -> u32;
+        fn delta_null_word_size(rows: *const u32, rows_len: usize, count: u32, n: u32, size: *mut u32) -> u32;
     }
 
     /// Buffers as they are before a run.
@@ -239,7 +215,7 @@ mod linked {
 
     fn reply(rows: &[u32], count: u32, question: Question) -> Reply {
         let (words, length) = (rows.as_ptr(), rows.len());
-        let mut reply = Reply { number: 0, value: FILL, work: vec![] };
+        let mut reply = Reply { number: 0, value: FILL };
         // The slices are apart from each other, and the functions keep none of them.
         reply.number = unsafe {
             match question {
@@ -249,11 +225,7 @@ mod linked {
                 Question::Castable { source, target } => {
                     delta_null_castable(words, length, count, source, target, &mut reply.value)
                 }
-                Question::WordSize { n, work } => {
-                    reply.work = work_before(work);
-                    let lent = reply.work.as_mut_ptr();
-                    delta_null_word_size(words, length, count, n, lent, work, &mut reply.value)
-                }
+                Question::WordSize { n } => delta_null_word_size(words, length, count, n, &mut reply.value),
             }
         };
         reply

@@ -10,6 +10,8 @@ use crate::{
 
 /// The most nodes of a type, unfolded, for which the reference is asked.
 const MOST_NODES: u64 = 2_000;
+/// The most nodes of the types of a module together.
+const MOST_NODES_OF_A_MODULE: u64 = 20_000;
 /// The most distinct aliases on a type for which the reference is asked.
 const MOST_LAYERS: usize = 8;
 
@@ -72,22 +74,47 @@ pub struct Related {
     pub asked: [usize; 2],
 }
 
+/// The type rows of a table.
+fn types_of(rows: &Rows) -> Vec<u32> {
+    (1..=rows.count() as u32).filter(|&number| !rows.row(number).is_cell()).collect()
+}
+
+/// Whether the reference can be asked for the words of a type, which the rules say are so many; where the two differ, that is the error.
+fn agree(number: u32, ty: &Type, said: Words) -> Result<bool, String> {
+    match reference_words(ty) {
+        None => Ok(false),
+        Some(asked) if asked == said => Ok(true),
+        Some(asked) => Err(format!("words of row {number}: the reference says {asked:?}, the rules {said:?}")),
+    }
+}
+
+/// Asks the reference for the words of the types of a table, as many as are not too much for it; for how many it was asked.
+pub fn ask_words(rows: &Rows) -> Result<usize, String> {
+    let (sizes, words) = (rows.unfolded_sizes(), rows.words());
+    let (mut nodes, mut asked) = (0, 0);
+    for number in types_of(rows) {
+        let size = sizes[number as usize - 1];
+        if size > MOST_NODES_OF_A_MODULE - nodes {
+            continue;
+        }
+        nodes += size;
+        asked += usize::from(agree(number, &reference_type(rows, number), words[number as usize - 1])?);
+    }
+    Ok(asked)
+}
+
 /// What the rules say of a table. The reference is asked wherever it can answer; where it and the rules differ, that is
 /// the error.
 pub fn related(rows: &Rows) -> Result<Related, String> {
     let sizes = rows.unfolded_sizes();
     let small = |number: u32| sizes[number as usize - 1] <= MOST_NODES && distinct_layers(rows, number) <= MOST_LAYERS;
-    let types: Vec<u32> = (1..=rows.count() as u32).filter(|&number| !rows.row(number).is_cell()).collect();
-    let mut related = Related { words: rows.words(), types, pairs: vec![], asked: [0; 2] };
+    let mut related = Related { words: rows.words(), types: types_of(rows), pairs: vec![], asked: [0; 2] };
     let references: Vec<(u32, Option<Type>)> =
         related.types.iter().map(|&number| (number, small(number).then(|| reference_type(rows, number)))).collect();
     for (number, ty) in &references {
-        let said = related.words[*number as usize - 1];
-        let Some(asked) = ty.as_ref().and_then(reference_words) else { continue };
-        if asked != said {
-            return Err(format!("words of row {number}: the reference says {asked:?}, the rules {said:?}"));
+        if let Some(ty) = ty {
+            related.asked[0] += usize::from(agree(*number, ty, related.words[*number as usize - 1])?);
         }
-        related.asked[0] += 1;
     }
     for (a, a_type) in &references {
         for (b, b_type) in &references {

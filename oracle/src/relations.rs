@@ -1,5 +1,5 @@
 //! The product's answers about rows, assignable, castable and the words of a type, against the reference and the rules: every
-//! value and every lent word, on tables by the thousand, good ones and ones in which a rule is broken.
+//! value and every refusal, on tables by the thousand, good ones and ones in which a rule is broken.
 
 use std::{
     fmt::Write,
@@ -9,87 +9,60 @@ use std::{
 
 use crate::{
     buffers,
-    product::{Product, Question, Reply, work_before},
+    product::{Product, Question, Reply},
     relate::{self, Related},
-    rows::{Words, kind},
+    rows::{ROW_WIDTH, TOO_LARGE, UNKNOWN_INSIDE},
     tables::{self, Breach, Table},
     tree::Random,
 };
 
-/// What a size that is no number of words is answered as.
-const TOO_LARGE: u32 = 65_536;
-const UNKNOWN: u32 = 65_537;
+/// What is true of a table: none if the rows break a rule, or the count is past them.
+struct Truth(Option<Related>);
 
-/// What is true of a table.
-struct Truth {
-    /// None if the rows break a rule, or the count is past them.
-    related: Option<Related>,
-    /// The working word of each row.
-    work: Vec<u32>,
-}
-
-fn size_word(words: Words) -> u32 {
-    match words {
-        Words::Known(words) => words,
-        Words::TooLarge => TOO_LARGE,
-        Words::Unknown => UNKNOWN,
-    }
+/// The words of the rows that count, if they are all lent.
+fn counted(table: &Table) -> Option<&[u32]> {
+    let end = usize::try_from(ROW_WIDTH as u64 * u64::from(table.count)).ok()?;
+    table.words.get(..end)
 }
 
 /// What the reference and the rules say of a table. Where both speak they must agree.
 fn truth(table: &Table) -> Result<Truth, String> {
-    let counted = usize::try_from(4 * u64::from(table.count)).ok().and_then(|end| table.words.get(..end));
-    let Some(rows) = counted.and_then(buffers::rows) else { return Ok(Truth { related: None, work: vec![] }) };
-    let related = relate::related(&rows)?;
-    let work = (1..=table.count).zip(&related.words).map(|(number, &words)| match (rows.row(number).kind, words) {
-        // In an argument cell only Unknown counts.
-        (kind::ARGUMENT, Words::Known(_) | Words::TooLarge) => 0,
-        _ => size_word(words),
-    });
-    Ok(Truth { work: work.collect(), related: Some(related) })
+    let Some(rows) = counted(table).and_then(buffers::rows) else { return Ok(Truth(None)) };
+    Ok(Truth(Some(relate::related(&rows)?)))
 }
 
 impl Truth {
-    /// What has to be said to a question: 8 if the rows break a rule or a number is no type row, then 5 if there are
-    /// fewer working words than rows.
+    /// What has to be said to a question: 8 if the rows break a rule or a number is no type row.
     fn reply(&self, question: Question) -> Reply {
-        let lent = if let Question::WordSize { work, .. } = question { work } else { 0 };
-        let refused = |number| Reply { number, value: 0, work: work_before(lent) };
-        let Some(related) = &self.related else { return refused(8) };
-        let answer = |value: bool| Reply { number: 0, value: u32::from(value), work: vec![] };
-        match question {
-            Question::Assignable { target: first, source: second }
-            | Question::Castable { source: first, target: second } => {
-                let (Some(a), Some(b)) = (related.place(first), related.place(second)) else { return refused(8) };
-                let (assignable, castable) = related.pair(a, b);
-                answer(if matches!(question, Question::Assignable { .. }) { assignable } else { castable })
+        let value = self.0.as_ref().and_then(|related| match question {
+            Question::Assignable { target, source } => {
+                let (assignable, _) = related.pair(related.place(target)?, related.place(source)?);
+                Some(u32::from(assignable))
             }
-            Question::WordSize { n, work } => {
-                if related.place(n).is_none() {
-                    return refused(8);
-                }
-                if work < self.work.len() {
-                    return refused(5);
-                }
-                let mut after = work_before(work);
-                after[..self.work.len()].copy_from_slice(&self.work);
-                Reply { number: 0, value: size_word(related.words[n as usize - 1]), work: after }
+            Question::Castable { source, target } => {
+                let (_, castable) = related.pair(related.place(source)?, related.place(target)?);
+                Some(u32::from(castable))
             }
+            Question::WordSize { n } => {
+                related.place(n)?;
+                Some(related.words[n as usize - 1].word())
+            }
+        });
+        match value {
+            Some(value) => Reply { number: 0, value },
+            None => Reply { number: 8, value: 0 },
         }
     }
 }
 
-/// Every pair of type rows, the words of each with enough working words, more and too few; then numbers that are no type rows.
+/// Every pair of type rows and the words of each; then numbers that are no type rows.
 fn questions_of(related: &Related, count: u32, random: &mut Random) -> Vec<Question> {
     let mut all = vec![];
-    let rows = count as usize;
     for &a in &related.types {
         for &b in &related.types {
             all.extend([Question::Assignable { target: a, source: b }, Question::Castable { source: a, target: b }]);
         }
-        for work in [rows, rows + 1 + random.below(6), rows - 1, random.below(rows)] {
-            all.push(Question::WordSize { n: a, work });
-        }
+        all.push(Question::WordSize { n: a });
     }
     let cells = (1..=count).filter(|&number| related.place(number).is_none());
     let none: Vec<u32> = cells.chain([0, count + 1, count + 2, 1 << 16, 1 << 31, u32::MAX]).collect();
@@ -98,22 +71,20 @@ fn questions_of(related: &Related, count: u32, random: &mut Random) -> Vec<Quest
         for (a, b) in [(n, one), (one, n), (n, n), (n, other)] {
             all.extend([Question::Assignable { target: a, source: b }, Question::Castable { source: a, target: b }]);
         }
-        all.extend([rows, rows + 3, rows - 1, 0].map(|work| Question::WordSize { n, work }));
+        all.push(Question::WordSize { n });
     }
     all
 }
 
-/// Some questions about a table that breaks a rule: good numbers and others, enough working words and too few.
+/// Some questions about a table that breaks a rule: good numbers and others.
 fn questions_past(table: &Table, random: &mut Random) -> Vec<Question> {
     let mut all = vec![];
-    let rows = table.count.min(table.words.len() as u32 / 4 + 1);
+    let rows = table.count.min((table.words.len() / ROW_WIDTH) as u32 + 1);
     let numbers = [0, 1, 4, 5, 6, 7, rows, rows + 1, u32::MAX];
     for _ in 0..12 {
         let (a, b) = (*random.pick(&numbers), *random.pick(&numbers));
         all.extend([Question::Assignable { target: a, source: b }, Question::Castable { source: a, target: b }]);
-        let enough = rows as usize;
-        let work = *random.pick(&[enough, enough + 2, enough.saturating_sub(1), 0]);
-        all.push(Question::WordSize { n: a, work });
+        all.push(Question::WordSize { n: a });
     }
     all
 }
@@ -129,7 +100,7 @@ struct Compare<'a> {
     questions: [usize; 3],
     /// Of assignable and castable: no, yes. Of words: a number, too large, unknown.
     answers: [[usize; 3]; 3],
-    refused: [usize; 9],
+    refused: usize,
     asked: [usize; 2],
     alone: [usize; 2],
     differences: usize,
@@ -155,7 +126,7 @@ impl Compare<'_> {
             Ok(truth) => truth,
             Err(why) => return self.differ(table, None, label, &why),
         };
-        let questions = match &truth.related {
+        let questions = match &truth.0 {
             Some(related) => questions_of(related, table.count, &mut random),
             None => questions_past(table, &mut random),
         };
@@ -167,9 +138,9 @@ impl Compare<'_> {
         let mut differs = None;
         for (&question, said) in questions.iter().zip(&replies) {
             let expected = truth.reply(question);
-            self.count_reply(question, &expected);
+            self.count_reply(question, expected);
             if *said != expected && differs.is_none() {
-                differs = Some((question, why(&expected, said)));
+                differs = Some((question, why(expected, *said)));
             }
         }
         if let Some((question, why)) = differs {
@@ -178,8 +149,8 @@ impl Compare<'_> {
     }
 
     fn count_table(&mut self, truth: &Truth) {
-        self.tables[usize::from(truth.related.is_none())] += 1;
-        if let Some(related) = &truth.related {
+        self.tables[usize::from(truth.0.is_none())] += 1;
+        if let Some(related) = &truth.0 {
             let all = [related.types.len(), related.pairs.len()];
             for (i, all) in all.into_iter().enumerate() {
                 self.asked[i] += related.asked[i];
@@ -188,15 +159,15 @@ impl Compare<'_> {
         }
     }
 
-    fn count_reply(&mut self, question: Question, expected: &Reply) {
+    fn count_reply(&mut self, question: Question, expected: Reply) {
         let which = function(question);
         self.questions[which] += 1;
-        self.refused[expected.number as usize] += 1;
+        self.refused += usize::from(expected.number == 8);
         if expected.number == 0 {
             let answer = match expected.value {
                 value if which < 2 => value as usize,
                 TOO_LARGE => 1,
-                UNKNOWN => 2,
+                UNKNOWN_INSIDE => 2,
                 _ => 0,
             };
             self.answers[which][answer] += 1;
@@ -238,7 +209,7 @@ impl Compare<'_> {
         let _ = writeln!(text, "assignable {assignable}: yes {}, no {}", a[1], a[0]);
         let _ = writeln!(text, "castable {castable}: yes {}, no {}", c[1], c[0]);
         let _ = writeln!(text, "words {words}: a number {}, too large {}, unknown {}", w[0], w[1], w[2]);
-        let _ = writeln!(text, "refused 5: {}, 8: {}", self.refused[5], self.refused[8]);
+        let _ = writeln!(text, "refused with 8: {}", self.refused);
         let [types, pairs] = self.alone;
         let _ = writeln!(text, "the reference asked: types {}, pairs {}", self.asked[0], self.asked[1]);
         let _ = writeln!(text, "the model alone: types {types}, pairs {pairs}");
@@ -248,15 +219,8 @@ impl Compare<'_> {
 }
 
 /// In what two replies differ.
-fn why(expected: &Reply, said: &Reply) -> String {
-    let short = |reply: &Reply| format!("{} with {}", reply.number, reply.value);
-    let place = expected.work.iter().zip(&said.work).position(|(a, b)| a != b);
-    match place {
-        Some(i) if short(expected) == short(said) => {
-            format!("working word {i}: oracle {}, product {}", expected.work[i], said.work[i])
-        }
-        _ => format!("oracle {}, product {}", short(expected), short(said)),
-    }
+fn why(expected: Reply, said: Reply) -> String {
+    format!("oracle {} with {}, product {} with {}", expected.number, expected.value, said.number, said.value)
 }
 
 /// What differs in the product's reply to one question.
@@ -266,7 +230,7 @@ fn difference(product: &mut Product, table: &Table, question: Question) -> Optio
         Err(why) => return Some(why),
     };
     match product.replies(&table.words, table.count, &[question]) {
-        Ok(said) => (said[0] != expected).then(|| why(&expected, &said[0])),
+        Ok(said) => (said[0] != expected).then(|| why(expected, said[0])),
         Err(why) => Some(why),
     }
 }
@@ -278,11 +242,10 @@ fn make_small(product: &mut Product, table: &mut Table, question: &mut Question)
             (*table, *question) = smaller;
         }
     };
-    let counted = 4 * table.count as usize;
-    if counted < table.words.len() {
-        tries((Table { words: table.words[..counted].to_vec(), count: table.count }, *question), table, question);
+    if let Some(words) = counted(table).map(<[u32]>::to_vec) {
+        tries((Table { words, count: table.count }, *question), table, question);
     }
-    for number in (8..=table.words.len() as u32 / 4).rev() {
+    for number in (8..=(table.words.len() / ROW_WIDTH) as u32).rev() {
         tries((without(table, number), question_without(*question, number)), table, question);
     }
 }
@@ -291,13 +254,13 @@ fn make_small(product: &mut Product, table: &mut Table, question: &mut Question)
 fn without(table: &Table, number: u32) -> Table {
     let down = |part: u32| if part > number { part - 1 } else { part };
     let mut words = table.words.clone();
-    words.drain(4 * (number as usize - 1)..4 * number as usize);
-    for row in words.chunks_exact_mut(4) {
+    words.drain(ROW_WIDTH * (number as usize - 1)..ROW_WIDTH * number as usize);
+    for row in words.chunks_exact_mut(ROW_WIDTH) {
         let [first, second] = tables::parts_of(row[0]);
         row[1] = if first { down(row[1]) } else { row[1] };
         row[2] = if second { down(row[2]) } else { row[2] };
     }
-    let fits = number <= table.count && 4 * (u64::from(table.count) - 1) <= table.words.len() as u64;
+    let fits = number <= table.count && ROW_WIDTH as u64 * (u64::from(table.count) - 1) <= table.words.len() as u64;
     Table { words, count: table.count - u32::from(fits) }
 }
 
@@ -306,14 +269,14 @@ fn question_without(question: Question, number: u32) -> Question {
     match question {
         Question::Assignable { target, source } => Question::Assignable { target: down(target), source: down(source) },
         Question::Castable { source, target } => Question::Castable { source: down(source), target: down(target) },
-        Question::WordSize { n, work } => Question::WordSize { n: down(n), work: work.saturating_sub(1) },
+        Question::WordSize { n } => Question::WordSize { n: down(n) },
     }
 }
 
 /// The question, what differs, and the rows.
 fn table_text(table: &Table, question: Option<Question>, why: &str) -> String {
     let mut text = format!("{question:?}, count {}, words lent {}\n{why}\n", table.count, table.words.len());
-    for (row, number) in table.words.chunks(4).zip(1..) {
+    for (row, number) in table.words.chunks(ROW_WIDTH).zip(1..) {
         let words: Vec<String> = row.iter().map(u32::to_string).collect();
         let _ = writeln!(text, "row {number}: {}", words.join(" "));
     }
@@ -331,7 +294,7 @@ pub fn compare(seed: u64, count: usize, program: &Path, folder: &Path) -> Result
         breaches: vec![0; breaches.len()],
         questions: [0; 3],
         answers: [[0; 3]; 3],
-        refused: [0; 9],
+        refused: 0,
         asked: [0; 2],
         alone: [0; 2],
         differences: 0,

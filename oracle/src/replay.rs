@@ -1,7 +1,7 @@
 //! The data of the program `replay`: modules with what is lent for them and what the oracle says of them.
 //!
 //! A case is twelve words, least byte first (bytes of the whole case, bytes of the module, bytes lent for the output, words lent for
-//! rows, errors and work, number and place of the refusal or 0, rows, errors, slots, names), the module, four words for each
+//! rows, errors and work, number and place of the refusal or 0, rows, errors, slots, names), the module, five words for each
 //! row, seven for each error, one for each slot in byte order. The rows are numbered as the oracle numbers them.
 
 use std::collections::HashSet;
@@ -13,6 +13,7 @@ use crate::{
     layout::{self, Module, Record},
     model, orders,
     product::{Loans, REPORT},
+    rows::ROW_WIDTH,
     tree::Random,
 };
 
@@ -43,11 +44,7 @@ type Feature = (u8, u32, [u32; 3]);
 
 /// The words of the answer: rows, errors, slots.
 fn answer_words(answer: &Answer) -> Vec<u32> {
-    let mut words = vec![];
-    for number in 1..=answer.rows.count() as u32 {
-        let row = answer.rows.row(number);
-        words.extend([row.kind, row.first, row.second, row.name]);
-    }
+    let mut words = answer.rows.row_words();
     for error in &answer.errors {
         words.extend([error.kind, u32::from(error.at.file), error.at.line, error.at.column]);
         words.extend(error.operands.map(|operand| match operand {
@@ -122,7 +119,7 @@ fn features(module: &Module, answer: &Answer) -> HashSet<Feature> {
 fn exact(bytes: &[u8], module: &Module, answer: &Answer) -> Loans {
     Loans {
         output: bytes.len(),
-        rows: 4 * answer.rows.count(),
+        rows: ROW_WIDTH * answer.rows.count(),
         errors: 7 * answer.errors.len(),
         work: 4 * module.names.len(),
     }
@@ -132,7 +129,7 @@ fn exact(bytes: &[u8], module: &Module, answer: &Answer) -> Loans {
 fn odd(exact: Loans, random: &mut Random) -> Loans {
     Loans {
         output: exact.output + random.below(4),
-        rows: exact.rows + random.below(4),
+        rows: exact.rows + random.below(ROW_WIDTH),
         errors: exact.errors + random.below(7),
         work: exact.work + random.below(4),
     }
@@ -142,7 +139,7 @@ fn odd(exact: Loans, random: &mut Random) -> Loans {
 fn tight(exact: Loans, random: &mut Random) -> Vec<(&'static str, Loans)> {
     let Loans { output, rows, errors, work } = exact;
     let mut from = |low, high| random.between(low, high);
-    let (few_rows, few_errors) = (from(1, 3), from(1, 6));
+    let (few_rows, few_errors) = (from(1, ROW_WIDTH - 1), from(1, 6));
     vec![
         ("exact loans", exact),
         ("output to spare", Loans { output: output + from(1, 9), ..exact }),
@@ -155,9 +152,9 @@ fn tight(exact: Loans, random: &mut Random) -> Vec<(&'static str, Loans)> {
         ("no working words", Loans { work: 0, ..exact }),
         ("too little of all", Loans { output: output - 1, rows: rows - 1, errors: errors - 1, work: work - 1 }),
         ("one row word less", Loans { rows: rows - 1, ..exact }),
-        ("no whole last row", Loans { rows: rows - 4 + few_rows, ..exact }),
-        ("one row less", Loans { rows: rows - 4, ..exact }),
-        ("six rows and some words", Loans { rows: 24 + few_rows, ..exact }),
+        ("no whole last row", Loans { rows: rows - ROW_WIDTH + few_rows, ..exact }),
+        ("one row less", Loans { rows: rows - ROW_WIDTH, ..exact }),
+        ("six rows and some words", Loans { rows: 6 * ROW_WIDTH + few_rows, ..exact }),
         ("no rows", Loans { rows: 0, ..exact }),
         ("too few rows and errors", Loans { rows: rows - few_rows, errors: errors - few_errors, ..exact }),
         ("one error word less", Loans { errors: errors - 1, ..exact }),
@@ -317,7 +314,7 @@ impl Replay {
                 let (lent, loans) = match seed % 5 {
                     0 | 1 => ("", REPORT),
                     2 => (", nothing lent", Loans { output: 0, rows: 0, errors: 0, work: 0 }),
-                    _ => (", little lent", Loans { output: copy.len(), rows: 31, errors: 20, work: 11 }),
+                    _ => (", little lent", Loans { output: copy.len(), rows: 39, errors: 20, work: 11 }),
                 };
                 self.add(format!("{what} {seed}{lent}"), &copy, loans, &truth);
             }

@@ -1,4 +1,5 @@
-//! Type rows as document 01 lays them down: four words each, numbered from 1, no two alike, pointing only to lower rows.
+//! Type rows as document 01 lays them down: numbered from 1, no two alike, pointing only to lower rows. By document 02's paper 3 each
+//! has a fifth word, the words of its type.
 
 use std::collections::HashMap;
 
@@ -25,7 +26,10 @@ pub mod kind {
     pub const ARGUMENT: u32 = 13;
 }
 
-/// One row's words.
+/// How many words a row has.
+pub const ROW_WIDTH: usize = 5;
+
+/// One row's words, but for the fifth, which follows from them.
 #[derive(Clone, Copy, Debug, PartialEq, Eq, Hash)]
 pub struct Row {
     pub kind: u32,
@@ -41,7 +45,7 @@ pub struct Rows {
     numbers: HashMap<Row, u32>,
 }
 
-/// The words of a type.
+/// The words of a type, or of a cell by paper 3.
 #[derive(Clone, Copy, Debug, PartialEq, Eq)]
 pub enum Words {
     Known(u32),
@@ -187,26 +191,12 @@ impl Rows {
 
     /// The words of every row, cells included, in row order.
     pub fn words(&self) -> Vec<Words> {
-        let mut all: Vec<Words> = vec![];
-        for row in &self.rows {
-            let of = |number: u32| if number == 0 { Words::Known(0) } else { all[number as usize - 1] };
-            let words = match row.kind {
-                1 => Words::Unknown,
-                2 => Words::Known(0),
-                3..=6 => Words::Known(1),
-                kind::ARRAY => times(row.second, of(row.first)),
-                kind::STRUCT | kind::ALIAS | kind::DISTINCT => of(row.first),
-                kind::FIELD => plus(of(row.first), of(row.second)),
-                // A function or the rest of its arguments is one word, if none of its parts is unknown.
-                kind::FUNCTION | kind::ARGUMENT => match (of(row.first), of(row.second)) {
-                    (Words::Unknown, _) | (_, Words::Unknown) => Words::Unknown,
-                    _ => Words::Known(1),
-                },
-                other => unreachable!("row kind {other}"),
-            };
-            all.push(words);
-        }
-        all
+        words_of(&self.rows)
+    }
+
+    /// The rows as they stand in a buffer.
+    pub fn row_words(&self) -> Vec<u32> {
+        row_words(&self.rows)
     }
 
     /// The number of nodes of each row unfolded, cells included.
@@ -234,6 +224,55 @@ impl Row {
     pub fn is_cell(&self) -> bool {
         matches!(self.kind, kind::FIELD | kind::ARGUMENT)
     }
+}
+
+impl Words {
+    /// As the fifth word of a row.
+    pub fn word(self) -> u32 {
+        match self {
+            Words::Known(words) => words,
+            Words::TooLarge => TOO_LARGE,
+            Words::Unknown => UNKNOWN_INSIDE,
+        }
+    }
+}
+
+/// What stands for the words of a type that has more than 65,535, or Unknown inside.
+pub const TOO_LARGE: u32 = 65_536;
+pub const UNKNOWN_INSIDE: u32 = 65_537;
+
+/// The words of each of these rows. A part that is no lower row counts for nothing, so that a row that breaks a rule has words too.
+pub fn words_of(rows: &[Row]) -> Vec<Words> {
+    let mut all: Vec<Words> = vec![];
+    for row in rows {
+        let of = |number: u32| match number {
+            0 => Words::Known(0),
+            _ => all.get(number as usize - 1).copied().unwrap_or(Words::Known(0)),
+        };
+        let unless_unknown = |words: u32| match (of(row.first), of(row.second)) {
+            (Words::Unknown, _) | (_, Words::Unknown) => Words::Unknown,
+            _ => Words::Known(words),
+        };
+        let words = match row.kind {
+            1 => Words::Unknown,
+            3..=6 => Words::Known(1),
+            kind::ARRAY => times(row.second, of(row.first)),
+            kind::STRUCT | kind::ALIAS | kind::DISTINCT => of(row.first),
+            kind::FIELD => plus(of(row.first), of(row.second)),
+            kind::FUNCTION => unless_unknown(1),
+            kind::ARGUMENT => unless_unknown(0),
+            // void, and what is no kind
+            _ => Words::Known(0),
+        };
+        all.push(words);
+    }
+    all
+}
+
+/// These rows as they stand in a buffer.
+pub fn row_words(rows: &[Row]) -> Vec<u32> {
+    let with_size = |(row, words): (&Row, Words)| [row.kind, row.first, row.second, row.name, words.word()];
+    rows.iter().zip(words_of(rows)).flat_map(with_size).collect()
 }
 
 fn limited(words: u64) -> Words {

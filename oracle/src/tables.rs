@@ -1,7 +1,7 @@
 //! Tables of rows: good ones from a seed, and tables in which one rule of document 01 is broken.
 
 use crate::{
-    rows::{Row, Rows, STRING_NAME, U16, kind},
+    rows::{self, ROW_WIDTH, Row, Rows, STRING_NAME, TOO_LARGE, U16, UNKNOWN, UNKNOWN_INSIDE, kind},
     tree::Random,
 };
 
@@ -51,15 +51,11 @@ fn all_rows(rows: &Rows) -> Vec<Row> {
     (1..=rows.count() as u32).map(|number| rows.row(number)).collect()
 }
 
-fn row_words(rows: &[Row]) -> Vec<u32> {
-    rows.iter().flat_map(|row| [row.kind, row.first, row.second, row.name]).collect()
-}
-
 /// A table that keeps the rules. Now and then its last rows are not counted, and words that mean nothing follow.
 pub fn good(seed: u64) -> Table {
     let mut random = Random::new(seed);
     let rows = drawn_rows(&mut random);
-    let mut words = row_words(&all_rows(&rows));
+    let mut words = rows.row_words();
     let count = if random.chance(20) { random.between(7, rows.count()) } else { rows.count() };
     for _ in 0..random.below(10) {
         words.push(*random.pick(&[0, 1, 7, 65_535, u32::MAX]));
@@ -71,28 +67,30 @@ pub fn good(seed: u64) -> Table {
 pub fn damaged(seed: u64) -> Table {
     let mut random = Random::new(seed);
     let rows = drawn_rows(&mut random);
-    let mut words = row_words(&all_rows(&rows));
-    match random.below(4) {
+    let mut words = rows.row_words();
+    match random.below(5) {
         0 => {
             let length = random.below(words.len());
             words.truncate(length);
         }
         1 => {
-            let row = random.below(rows.count()) * 4;
-            words.extend_from_within(row..row + 4);
+            let row = random.below(rows.count()) * ROW_WIDTH;
+            words.extend_from_within(row..row + ROW_WIDTH);
         }
         2 => {
             let place = random.below(words.len());
             words[place] =
                 *random.pick(&[0, 1, words[place].wrapping_add(1), words[place].wrapping_sub(1), 65_535, u32::MAX]);
         }
-        _ => {
-            let last = words.len() / 4 - 1;
+        // Two rows, or their fifth words alone.
+        way => {
+            let last = words.len() / ROW_WIDTH - 1;
             let (a, b) = (random.between(5, last), random.between(5, last));
-            (0..4).for_each(|i| words.swap(4 * a + i, 4 * b + i));
+            let from = if way == 3 { 0 } else { SIZE };
+            (from..ROW_WIDTH).for_each(|i| words.swap(ROW_WIDTH * a + i, ROW_WIDTH * b + i));
         }
     }
-    let count = words.len().div_ceil(4) as u32;
+    let count = words.len().div_ceil(ROW_WIDTH) as u32;
     Table { words, count }
 }
 
@@ -102,7 +100,7 @@ pub fn file_words(seed: u64) -> Vec<u32> {
         return damaged(seed).words;
     }
     let Table { mut words, count } = good(seed);
-    words.truncate(4 * count as usize);
+    words.truncate(ROW_WIDTH * count as usize);
     words
 }
 
@@ -115,6 +113,9 @@ pub struct Breach {
 /// The rows that break a rule, from the number of the first of them on.
 type Block = Box<dyn Fn(u32) -> Vec<Row>>;
 
+/// What changes the fifth words of rows.
+type Wrong = Box<dyn Fn(&mut [u32])>;
+
 enum How {
     /// This count in place of the right one, which is given.
     Count(fn(u32) -> u32),
@@ -126,6 +127,8 @@ enum How {
     Rows(Block),
     /// Rows behind the others, the last of which is not counted.
     Uncounted(Block),
+    /// Rows among the others that keep the rules but for their fifth words, which are changed from the right ones.
+    Sizes(Block, Wrong),
 }
 
 fn row(kind: u32, first: u32, second: u32, name: u32) -> Row {
@@ -193,7 +196,10 @@ pub fn parts_of(kind: u32) -> [bool; 2] {
     [first, second]
 }
 
-const WORDS: [&str; 4] = ["kind", "first", "second", "name"];
+const WORDS: [&str; ROW_WIDTH] = ["kind", "first", "second", "name", "size"];
+
+/// The place of the fifth word.
+const SIZE: usize = 4;
 
 fn with_word(mut row: Row, word: usize, value: u32) -> Row {
     *[&mut row.kind, &mut row.first, &mut row.second, &mut row.name][word] = value;
@@ -217,7 +223,8 @@ impl Breaches {
     fn counts(&mut self) {
         self.put("the count is one past the rows lent", How::Count(|count| count + 1));
         self.put("the count is 4294967295", How::Count(|_| u32::MAX));
-        self.put("the count in words is right modulo 2^32", How::Count(|count| count + (1 << 30)));
+        // 5 times that is one less than 2^32.
+        self.put("the count in words fits modulo 2^32", How::Count(|count| count + 858_993_459));
         self.put("the last row is not whole", How::Cut);
         let few: [fn(u32) -> u32; 7] = [|_| 0, |_| 1, |_| 2, |_| 3, |_| 4, |_| 5, |_| 6];
         for (count, how) in few.into_iter().enumerate() {
@@ -301,6 +308,80 @@ impl Breaches {
         }
     }
 
+    /// Rows behind a foundation that are good but for their fifth words, which `wrong` changes: it is given those of the foundation too.
+    fn put_sizes(
+        &mut self,
+        name: String,
+        rows: impl Fn(u32) -> Vec<Row> + 'static,
+        wrong: impl Fn(&mut [u32]) + 'static,
+    ) {
+        let block = move |at| [foundation(at), rows(at)].concat();
+        self.put(name, How::Sizes(Box::new(block), Box::new(wrong)));
+    }
+
+    /// Fifth words that are not the row's own.
+    fn sizes(&mut self) {
+        for kind in kind::POINTER..=kind::ARGUMENT {
+            let rows = move |at| vec![sound(kind, at)];
+            for (what, more) in [("one more", 1), ("one less", u32::MAX)] {
+                self.put_sizes(format!("kind {kind}: the size is {what}"), rows, move |sizes| {
+                    *last(sizes) = last(sizes).wrapping_add(more);
+                });
+            }
+            for size in [TOO_LARGE, UNKNOWN_INSIDE, u32::MAX] {
+                self.put_sizes(format!("kind {kind}: the size is {size}"), rows, move |sizes| *last(sizes) = size);
+            }
+        }
+        self.sizes_about_the_limits();
+        let arrays = |at| vec![row(kind::ARRAY, at, 3, 0), row(kind::ARRAY, at, 5, 0)];
+        self.put_sizes("two sizes exchanged".to_owned(), arrays, |sizes| {
+            let end = sizes.len();
+            sizes.swap(end - 1, end - 2);
+        });
+        for kind in [kind::FIELD, kind::ARGUMENT] {
+            self.put_sizes(
+                format!("kind {kind}: the size of its type alone"),
+                move |at| vec![sound(kind, at)],
+                |sizes| *last(sizes) = sizes[0],
+            );
+        }
+    }
+
+    /// Rows of about 65,535 words and with Unknown inside, with another of the words that may stand there.
+    fn sizes_about_the_limits(&mut self) {
+        // The first part: the alias of u16, one of Unknown, an array of 70,000 words.
+        const ONE: u32 = 0;
+        const NONE_KNOWN: u32 = BEHIND;
+        const LARGE: u32 = BEHIND + 1;
+        let told = [
+            ("65,535 words as too many", kind::ARRAY, ONE, 65_535, TOO_LARGE),
+            ("65,536 words as 65,535", kind::ARRAY, ONE, 65_536, 65_535),
+            ("65,536 words as none", kind::ARRAY, ONE, 65_536, 0),
+            ("too many words as Unknown", kind::ARRAY, ONE, 65_537, UNKNOWN_INSIDE),
+            ("no arrays of too many words as too many", kind::ARRAY, LARGE, 0, TOO_LARGE),
+            ("no Unknown as no words", kind::ARRAY, NONE_KNOWN, 0, 0),
+            ("many Unknown as too many words", kind::ARRAY, NONE_KNOWN, 70_000, TOO_LARGE),
+            ("an alias of Unknown as no words", kind::DISTINCT, NONE_KNOWN, 0, 0),
+            ("a pointer to Unknown as Unknown", kind::POINTER, NONE_KNOWN, 0, UNKNOWN_INSIDE),
+            ("a function that returns Unknown as one word", kind::FUNCTION, NONE_KNOWN, 0, 1),
+            ("a function that returns too many words as too many", kind::FUNCTION, LARGE, 0, TOO_LARGE),
+            ("an argument of too many words as too many", kind::ARGUMENT, LARGE, 0, TOO_LARGE),
+            ("an argument of Unknown as no words", kind::ARGUMENT, NONE_KNOWN, 0, 0),
+            ("a field of Unknown as no words", kind::FIELD, NONE_KNOWN, 0, 0),
+        ];
+        for (what, kind, part, second, wrong) in told {
+            let name = if due(kind)[2] == Due::Number { FRESH + 7 } else { 0 };
+            let rows = move |at| {
+                vec![
+                    row(kind::ALIAS, UNKNOWN, 0, FRESH + 6),
+                    row(kind::ARRAY, at, 70_000, 0),
+                    row(kind, at + part, second, name),
+                ]
+            };
+            self.put_sizes(format!("the size of {what}"), rows, move |sizes| *last(sizes) = wrong);
+        }
+    }
+
     fn alike(&mut self) {
         for number in 1..=7 {
             self.put_rows(format!("row {number} twice"), move |_| vec![Rows::new().row(number)]);
@@ -312,6 +393,10 @@ impl Breaches {
             });
         }
     }
+}
+
+fn last(sizes: &mut [u32]) -> &mut u32 {
+    sizes.last_mut().expect("a row")
 }
 
 /// A row of the kind: its fixed one for the kinds 1 to 5, which would be there twice if no word were changed.
@@ -328,6 +413,7 @@ pub fn breaches() -> Vec<Breach> {
     all.unused();
     all.parts();
     all.names();
+    all.sizes();
     all.alike();
     all.0
 }
@@ -349,23 +435,33 @@ fn inserted(rows: &[Row], before: usize, block: Vec<Row>) -> Vec<Row> {
 pub fn broken(seed: u64, breach: &Breach) -> Table {
     let mut random = Random::new(seed);
     let rows = all_rows(&drawn_rows(&mut random));
-    let mut table = Table { words: row_words(&rows), count: rows.len() as u32 };
+    let table_of = |rows: &[Row]| Table { words: rows::row_words(rows), count: rows.len() as u32 };
+    let among = |block: &Block, random: &mut Random| {
+        let before = random.between(7, rows.len());
+        (before, inserted(&rows, before, block(before as u32 + 1)))
+    };
+    let mut table = table_of(&rows);
     match &breach.how {
         How::Count(how) => table.count = how(table.count),
         How::Cut => drop(table.words.pop()),
         How::Fixed { row, word } => {
-            let word = &mut table.words[4 * (row - 1) + word];
+            let word = &mut table.words[ROW_WIDTH * (row - 1) + word];
             let others = [word.wrapping_add(1), word.wrapping_sub(1), 14, u32::MAX];
             *word = *random.pick(&others);
         }
-        How::Rows(block) => {
-            let before = random.between(7, rows.len());
-            let rows = inserted(&rows, before, block(before as u32 + 1));
-            table = Table { words: row_words(&rows), count: rows.len() as u32 };
-        }
+        How::Rows(block) => table = table_of(&among(block, &mut random).1),
         How::Uncounted(block) => {
-            let rows = [&rows[..], &block(rows.len() as u32 + 1)].concat();
-            table = Table { words: row_words(&rows), count: rows.len() as u32 - 1 };
+            table = table_of(&[&rows[..], &block(rows.len() as u32 + 1)].concat());
+            table.count -= 1;
+        }
+        How::Sizes(block, wrong) => {
+            let (before, all) = among(block, &mut random);
+            table = table_of(&all);
+            let more = all.len() - rows.len();
+            let places: Vec<usize> = (before..before + more).map(|row| ROW_WIDTH * row + SIZE).collect();
+            let mut sizes: Vec<u32> = places.iter().map(|&place| table.words[place]).collect();
+            wrong(&mut sizes);
+            places.into_iter().zip(sizes).for_each(|(place, size)| table.words[place] = size);
         }
     }
     table
@@ -377,7 +473,7 @@ mod tests {
     use crate::buffers;
 
     fn is_good(table: &Table) -> bool {
-        let end = 4 * table.count as usize;
+        let end = ROW_WIDTH * table.count as usize;
         end <= table.words.len() && buffers::rows(&table.words[..end]).is_some()
     }
 

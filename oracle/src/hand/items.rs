@@ -12,6 +12,7 @@ pub fn add(all: &mut Vec<Case>) {
     internal_aliases(all);
     globals(all);
     functions(all);
+    words(all);
     orders(all);
     let bytes = |kind, text: &str| Tree::with_bytes(kind, Place::default(), &[], text.as_bytes());
     put(all, "use and assembly", complete(vec![bytes(82, "other"), bytes(84, "nop"), bytes(82, ""), bytes(84, "")]));
@@ -112,6 +113,48 @@ fn functions(all: &mut Vec<Case>) {
         "a function of itself as a value",
         complete(vec![of(vec![void(), record(65, &[], vec![record(39, &[0], vec![id(F)])])])]),
     );
+}
+
+/// Types about the limits of words, and with Unknown inside.
+fn words(all: &mut Vec<Case>) {
+    let of = |size, t: Tree| array(size, t);
+    let large = || of(70_000, ty(U16));
+    let two = |t: Tree, u: Tree| structure(vec![(X, t), (Y, u)]);
+    let takes = |t: Tree| record(80, &[F], vec![void(), record(85, &[X], vec![t])]);
+    let unknown = || ty(A);
+    let types = [
+        ("an array of 65,535 words", of(65_535, ty(U16))),
+        ("an array of 65,536 words", of(65_536, ty(U16))),
+        ("an array of 256 arrays of 256", of(256, of(256, ty(U16)))),
+        ("an array of 257 arrays of 255", of(257, of(255, ty(U16)))),
+        ("an array of 2^32 - 1 arrays of 2^32 - 1", of(u32::MAX, of(u32::MAX, ty(U16)))),
+        ("an array of 65,537 empty structs", of(65_537, structure(vec![]))),
+        ("no arrays of 70,000", of(0, large())),
+        ("no Unknown", of(0, unknown())),
+        ("an array of 70,000 Unknown", of(70_000, unknown())),
+        ("a struct of two arrays of 40,000", two(of(40_000, ty(U16)), of(40_000, ty(U16)))),
+        ("a struct of 65,535 words", two(of(40_000, ty(U16)), of(25_535, ty(U16)))),
+        ("a struct of 65,536 words", two(of(40_000, ty(U16)), of(25_536, ty(U16)))),
+        ("a struct of too many words and Unknown", two(large(), unknown())),
+        ("a struct of Unknown and too many words", two(unknown(), large())),
+        ("a pointer to too many words", pointer(large())),
+        ("a pointer to Unknown", pointer(unknown())),
+        ("a struct of a pointer to Unknown", two(pointer(unknown()), ty(U16))),
+    ];
+    for (what, t) in types {
+        put(all, format!("words: {what}"), complete(vec![global(Y, t.clone()), takes(t)]));
+    }
+    let returns = |t: Tree| record(80, &[F], vec![t, record(85, &[X], vec![ty(U16)])]);
+    put(all, "words: a function that returns Unknown", complete(vec![returns(unknown())]));
+    put(all, "words: a function that returns too many words", complete(vec![returns(large())]));
+    // Each alias is a struct of two of the one before: 2^16 words from the seventeenth on.
+    let names: Vec<String> = ["u16".to_owned(), "f".to_owned(), "g".to_owned()]
+        .into_iter()
+        .chain((0..400).map(|i| format!("a{i}")))
+        .collect();
+    let pair_of = |t: u32| structure(vec![(1, ty(t)), (2, ty(t))]);
+    let aliases = (0..400).map(|i| alias(3 + i, 0, pair_of(if i == 0 { 0 } else { 2 + i }))).collect();
+    put(all, "words: 400 aliases, each twice the one before", Tree::module(&names, aliases).to_bytes());
 }
 
 /// Two orders of an alias and two variables, 238 bytes each, and orders that demand 3 does not speak of.

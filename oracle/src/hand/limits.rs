@@ -8,6 +8,7 @@ use crate::{
     layout::{self, Place},
     model,
     product::Loans,
+    rows::ROW_WIDTH,
     tree::Tree,
 };
 
@@ -115,20 +116,23 @@ pub fn with_errors(errors: usize) -> Vec<u8> {
     bytes
 }
 
+/// The words of the rows that every table begins with.
+const SEVEN_ROWS: usize = 7 * ROW_WIDTH;
+
 /// The example with exactly what it needs lent, and less of each by one. Its type stands on another line each time.
 fn loans(all: &mut Vec<Case>) {
-    let exact = Loans { output: 112, rows: 28, errors: 14, work: 8 };
+    let exact = Loans { output: 112, rows: SEVEN_ROWS, errors: 14, work: 8 };
     let lent = [
         ("exact loans", exact),
         ("an output of one byte more", Loans { output: 113, ..exact }),
         ("an output of one byte less", Loans { output: 111, ..exact }),
         ("one working word less", Loans { work: 7, ..exact }),
         ("working words to spare", Loans { work: 9, ..exact }),
-        ("one row word less", Loans { rows: 27, ..exact }),
-        ("row words to spare", Loans { rows: 31, ..exact }),
+        ("one row word less", Loans { rows: SEVEN_ROWS - 1, ..exact }),
+        ("row words to spare", Loans { rows: SEVEN_ROWS + 4, ..exact }),
         ("one error word less", Loans { errors: 13, ..exact }),
         ("error words to spare", Loans { errors: 20, ..exact }),
-        ("too few rows and errors", Loans { rows: 27, errors: 13, ..exact }),
+        ("too few rows and errors", Loans { rows: SEVEN_ROWS - 1, errors: 13, ..exact }),
         ("nothing lent", Loans { output: 0, rows: 0, errors: 0, work: 0 }),
     ];
     for ((what, loans), line) in lent.into_iter().zip(4..) {
@@ -147,14 +151,14 @@ fn no_bytes(all: &mut Vec<Case>) {
         ("all lent", Loans { output: 100, rows: 0, errors: 20, work: 11 }),
     ];
     let mut case = |name: String, bytes: &[u8], loans| all.push(Case { name, bytes: bytes.to_vec(), loans });
-    for rows in [0, 1, 24, 27, 28, 29, 32, REPORT.rows] {
+    for rows in [0, 1, 28, 30, 34, 35, 36, 39, 40, REPORT.rows] {
         for (what, loans) in other {
             case(format!("the empty file, {rows} row words, {what}"), &[], Loans { rows, ..loans });
         }
     }
     case("the empty file".to_owned(), &[], REPORT);
     let least = Tree::module::<&str>(&[], vec![]).to_bytes();
-    for (output, rows) in [(10, 28), (31, 28), (32, 27), (32, 28), (33, 29)] {
+    for (output, rows) in [(10, 35), (31, 35), (32, 34), (32, 35), (33, 36)] {
         let loans = Loans { output, rows, ..none };
         case(format!("a module without names and items, {output} bytes of output, {rows} row words"), &least, loans);
     }
@@ -165,7 +169,7 @@ fn no_bytes(all: &mut Vec<Case>) {
         // The length says that this is all.
         let mut short = least[..length].to_vec();
         short[0] = length as u8;
-        case(format!("a module of {length} bytes"), &short, Loans { output: 16, rows: 28, ..none });
+        case(format!("a module of {length} bytes"), &short, Loans { output: 16, rows: SEVEN_ROWS, ..none });
     }
 }
 
