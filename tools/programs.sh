@@ -22,7 +22,7 @@ expect() {
 
 : >"$room/empty"
 echo 'rows 7 errors 0' >"$room/seven_rows"
-for words in '1 1 0 0 0' '2 2 0 0 0' '3 3 0 0 0' '4 4 0 0 0' '5 5 0 0 0' '6 6 4 0 0' '7 11 6 0 65535'; do
+for words in '1 1 0 0 0 65537' '2 2 0 0 0 0' '3 3 0 0 0 1' '4 4 0 0 0 1' '5 5 0 0 0 1' '6 6 4 0 0 1' '7 11 6 0 65535 1'; do
     echo "row $words"
 done >"$room/fixed_rows"
 expect 0 "$room/seven_rows" report "$room/empty"
