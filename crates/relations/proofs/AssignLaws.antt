@@ -12,10 +12,10 @@ use Rattle.relations.specs.Relations.{typesAreAssignable}
 use Rattle.types.proofs.Laws.{injective, same-refl, same-false}
 
 -- One turn, at what both sides desugar to
-abbrev turn : (t s : Ty) → Bool
+abbrev pub turn : (t s : Ty) → Bool
 turn t s = same t s || (is pointerKind t && is pointerKind s && is arrayKind (firstOf s) && typesAreAssignable (firstOf t) (firstOf (firstOf s)))
 
-assign-turn : (t s : Ty) → typesAreAssignable t s ≡ turn (desugar t) (desugar s)
+pub assign-turn : (t s : Ty) → typesAreAssignable t s ≡ turn (desugar t) (desugar s)
 unfolding typesAreAssignable desugar
 assign-turn end s = sym (or-false _)
 assign-turn (node k a b z n) s = go (eqb k aliasKind) refl (assign-turn a s)

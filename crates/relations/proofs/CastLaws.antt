@@ -30,14 +30,14 @@ module _ (f : List Ty → Bool) (p : Ty → Bool) (none-left : f [] ≡ false) (
       go false e = rw e (one-more _ _ ∙ rw none-left)
 
 -- The search over the strips of the target, and the search over those of the source
-abbrev targetFits : (source target : Ty) → Bool
+abbrev pub targetFits : (source target : Ty) → Bool
 targetFits source target = someFits (map (pair source) (strips target))
 
-target-turn : (source t : Ty) → targetFits source t ≡ (castFits (pair source t) || (is distinctKind t && targetFits source (firstOf t)))
+pub target-turn : (source t : Ty) → targetFits source t ≡ (castFits (pair source t) || (is distinctKind t && targetFits source (firstOf t)))
 unfolding someFits
 target-turn source = strips-turn (λ l. someFits (map (pair source) l)) (λ t. castFits (pair source t)) refl (λ t l. refl)
 
-source-turn : (target t : Ty) → isCastableTo t target ≡ (targetFits t target || (is distinctKind t && isCastableTo (firstOf t) target))
+pub source-turn : (target t : Ty) → isCastableTo t target ≡ (targetFits t target || (is distinctKind t && isCastableTo (firstOf t) target))
 unfolding someFits castPairs isCastableTo
 source-turn target =
     strips-turn (λ l. someFits (castPairs l (strips target))) (λ t. targetFits t target) refl (λ t l. fits-append (map (pair t) (strips target)) (castPairs l (strips target)))

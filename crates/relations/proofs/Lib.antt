@@ -1,3 +1,6 @@
 pub mod AssignLaws
 pub mod CastLaws
 pub mod WordLaws
+pub mod Decay
+pub mod BackendLaws
+pub mod Footprint

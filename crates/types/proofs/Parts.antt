@@ -10,17 +10,13 @@ use lib.Dec.{eqb}
 use Rattle.types.specs.Ty.{Ty, end, node, same, member, parts, firstOf, secondOf}
 use Rattle.types.specs.Table.{rowAt, build, unfolded, hasType, Table}
 use Rattle.types.specs.Post.{Added}
-use Rattle.types.proofs.Laws.{same-true, unfolded-zero, unfolded-row, first-lower, second-lower, row-not-end}
+use Rattle.types.proofs.Laws.{either, same-true, unfolded-zero, unfolded-row, first-lower, second-lower, row-not-end}
 use Rattle.types.proofs.Set.{has-here}
 
 pub member-append : (u : Ty) (a b : List Ty) → member u (a ++ b) ≡ (member u a || member u b)
 unfolding member
 member-append u [] b = refl
 member-append u (x ∷ a) b = ap (λ (y : Bool). same u x || y) (member-append u a b) ∙ sym (or-assoc (same u x) (member u a) (member u b))
-
-either : (a b : Bool) → (a || b) ≡ true → (a ≡ true) ⊎ (b ≡ true)
-either true b e = inl refl
-either false b e = inr e
 
 -- A part of a type is the type itself, or a part of one of its two parts
 part-cases : (u t : Ty) → member u (parts t) ≡ true → (u ≡ t) ⊎ ((member u (parts (firstOf t)) ≡ true) ⊎ (member u (parts (secondOf t)) ≡ true))

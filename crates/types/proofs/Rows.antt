@@ -1,13 +1,13 @@
 -- Rows that obey the table's rules, one by one.
-use Prim.Native.Nat.{ℕ, _+_, _≤_, _<_}
+use Prim.Native.Nat.{ℕ, _+_, _-_, _≤_, _<_}
 use mathlib.Core.Path.{_≡_, sym, ap, _∙_, subst}
 use mathlib.Core.List.{List}
 use native.Mathlib.Omega.{arith}
 use borrow.Author.Count.{below-none, below-more}
 use Rattle.rows.proofs.Search.{last-or}
 use Rattle.types.specs.WordSize.{sizeWord}
-use Rattle.types.specs.Table.{rowAt, sizeWordAt, build, unfolded, Distinct, RowOk, Sizes, Table}
-use Rattle.types.proofs.Laws.{unfolded-ok}
+use Rattle.types.specs.Table.{Words, rowAt, sizeWordAt, build, unfolded, Distinct, RowOk, Sizes, Table}
+use Rattle.types.proofs.Laws.{first-at-most, unfolded-ok}
 
 -- The rows 1 to m obey the rules
 pub record Rows (w : List ℕ) (m : ℕ) : Type 0 where
@@ -38,3 +38,12 @@ module _ (w : List ℕ) (m : ℕ) (s : Rows w m) (ok : RowOk w m (rowAt w (m + 1
   pub rows-add : ((i : ℕ) → 1 ≤ i → i ≤ m → rowAt w i ≡ rowAt w (m + 1) → ⊥)
       → sizeWordAt w (m + 1) ≡ sizeWord (build (rowAt w (m + 1)) (unfolded w)) → Rows w (m + 1)
   rows-add new size = record { rows = below-more _ m (s .rows) ok; distinct = distinct-more new; sizes = sizes-more size }
+
+-- A row that points to the last of the rows 1 to m is like none of them
+pub points-to-last : (w : List ℕ) (m : ℕ) → Rows w m → (r : Words) → r .first ≡ m → (i : ℕ) → 1 ≤ i → i ≤ m → rowAt w i ≡ r → ⊥
+points-to-last w m s r e i l h q =
+    let same-number : i - 1 + 1 ≡ i = omega arith in
+    let ok = subst (λ (n : ℕ). RowOk w (i - 1) (rowAt w n)) same-number (s .rows (i - 1) (omega arith)) in
+    let lower = first-at-most w (i - 1) (rowAt w i) ok in
+    let first-is = ap (λ (x : Words). x .first) q in
+    omega arith
