@@ -23,6 +23,7 @@ pub mod buffers;
 pub mod compare;
 pub mod damage;
 pub mod decode;
+pub mod footprint;
 pub mod generate;
 pub mod hand;
 pub mod layout;

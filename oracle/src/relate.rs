@@ -1,8 +1,7 @@
 //! Words, assignable and castable over a table of rows, as the reference says and as the rules say.
 
-use std::panic::{self, AssertUnwindSafe};
-
 use crate::{
+    footprint::{Asked, Footprint},
     ir::{IntegerSize, Type as Direct},
     rows::{Rows, STRING_NAME, Words, kind},
     type_check::{Type, types_are_assignable},
@@ -42,16 +41,6 @@ fn reference_type(rows: &Rows, number: u32) -> Type {
     }
 }
 
-/// The words that the reference gives a type; none where its numbers overflow.
-fn reference_words(ty: &Type) -> Option<Words> {
-    let Ok(direct) = panic::catch_unwind(AssertUnwindSafe(|| ty.to_ir_type())) else { return Some(Words::Unknown) };
-    match panic::catch_unwind(AssertUnwindSafe(|| direct.word_size())) {
-        Err(_) => None,
-        Ok(words) if words > 65_535 => Some(Words::TooLarge),
-        Ok(words) => Some(Words::Known(words as u32)),
-    }
-}
-
 fn distinct_layers(rows: &Rows, mut number: u32) -> usize {
     let mut layers = 0;
     while rows.row(number).kind == kind::DISTINCT {
@@ -72,6 +61,8 @@ pub struct Related {
     pub pairs: Vec<(bool, bool)>,
     /// How many words of types, and how many pairs, the reference was asked for.
     pub asked: [usize; 2],
+    /// What those pairs show of paper 5's sentences.
+    pub footprint: Footprint,
 }
 
 /// The type rows of a table.
@@ -80,11 +71,11 @@ fn types_of(rows: &Rows) -> Vec<u32> {
 }
 
 /// Whether the reference can be asked for the words of a type, which the rules say are so many; where the two differ, that is the error.
-fn agree(number: u32, ty: &Type, said: Words) -> Result<bool, String> {
-    match reference_words(ty) {
+fn agree(number: u32, asked: &Asked, said: Words) -> Result<bool, String> {
+    match asked.words {
         None => Ok(false),
-        Some(asked) if asked == said => Ok(true),
-        Some(asked) => Err(format!("words of row {number}: the reference says {asked:?}, the rules {said:?}")),
+        Some(words) if words == said => Ok(true),
+        Some(words) => Err(format!("words of row {number}: the reference says {words:?}, the rules {said:?}")),
     }
 }
 
@@ -98,29 +89,35 @@ pub fn ask_words(rows: &Rows) -> Result<usize, String> {
             continue;
         }
         nodes += size;
-        asked += usize::from(agree(number, &reference_type(rows, number), words[number as usize - 1])?);
+        asked += usize::from(agree(number, &Asked::new(reference_type(rows, number)), words[number as usize - 1])?);
     }
     Ok(asked)
 }
 
-/// What the rules say of a table. The reference is asked wherever it can answer; where it and the rules differ, that is
-/// the error.
+/// What the rules say of a table. The reference is asked wherever it can answer; where it and the rules differ, or its answers are not
+/// as paper 5 says, that is the error.
 pub fn related(rows: &Rows) -> Result<Related, String> {
     let sizes = rows.unfolded_sizes();
     let small = |number: u32| sizes[number as usize - 1] <= MOST_NODES && distinct_layers(rows, number) <= MOST_LAYERS;
-    let mut related = Related { words: rows.words(), types: types_of(rows), pairs: vec![], asked: [0; 2] };
-    let references: Vec<(u32, Option<Type>)> =
-        related.types.iter().map(|&number| (number, small(number).then(|| reference_type(rows, number)))).collect();
-    for (number, ty) in &references {
-        if let Some(ty) = ty {
-            related.asked[0] += usize::from(agree(*number, ty, related.words[*number as usize - 1])?);
+    let mut related = Related {
+        words: rows.words(),
+        types: types_of(rows),
+        pairs: vec![],
+        asked: [0; 2],
+        footprint: Footprint::default(),
+    };
+    let references: Vec<Option<Asked>> =
+        related.types.iter().map(|&number| small(number).then(|| Asked::new(reference_type(rows, number)))).collect();
+    for (&number, asked) in related.types.iter().zip(&references) {
+        if let Some(asked) = asked {
+            related.asked[0] += usize::from(agree(number, asked, related.words[number as usize - 1])?);
         }
     }
-    for (a, a_type) in &references {
-        for (b, b_type) in &references {
-            let said = (rows.assignable(*a, *b), rows.castable(*a, *b));
-            if let (Some(x), Some(y)) = (a_type, b_type) {
-                if (types_are_assignable(x, y), x.is_castable_to(y)) != said {
+    for (&a, a_asked) in related.types.iter().zip(&references) {
+        for (&b, b_asked) in related.types.iter().zip(&references) {
+            let said = (rows.assignable(a, b), rows.castable(a, b));
+            if let (Some(x), Some(y)) = (a_asked, b_asked) {
+                if (types_are_assignable(&x.ty, &y.ty), x.ty.is_castable_to(&y.ty)) != said {
                     return Err(format!("rows {a} and {b}: the reference and the rules differ"));
                 }
                 related.asked[1] += 1;
@@ -128,10 +125,24 @@ pub fn related(rows: &Rows) -> Result<Related, String> {
             related.pairs.push(said);
         }
     }
+    related.count_footprint(&references)?;
     Ok(related)
 }
 
 impl Related {
+    /// Holds every pair that the reference was asked for to paper 5's sentences, each type as the target and as the source.
+    fn count_footprint(&mut self, references: &[Option<Asked>]) -> Result<(), String> {
+        for (i, target) in references.iter().enumerate() {
+            for (j, source) in references.iter().enumerate() {
+                let (Some(target), Some(source)) = (target, source) else { continue };
+                let (assignable, castable) = (self.pair(i, j).0, self.pair(j, i).1);
+                let counted = self.footprint.count(target, source, assignable, castable);
+                counted.map_err(|why| format!("target {}, source {}: {why}", self.types[i], self.types[j]))?;
+            }
+        }
+        Ok(())
+    }
+
     /// The place of a type row among the type rows; none for another number.
     pub fn place(&self, number: u32) -> Option<usize> {
         self.types.binary_search(&number).ok()

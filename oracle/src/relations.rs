@@ -9,6 +9,7 @@ use std::{
 
 use crate::{
     buffers,
+    footprint::Footprint,
     product::{Product, Question, Reply},
     relate::{self, Related},
     rows::{ROW_WIDTH, TOO_LARGE, UNKNOWN_INSIDE},
@@ -103,6 +104,7 @@ struct Compare<'a> {
     refused: usize,
     asked: [usize; 2],
     alone: [usize; 2],
+    footprint: Footprint,
     differences: usize,
 }
 
@@ -151,6 +153,7 @@ impl Compare<'_> {
     fn count_table(&mut self, truth: &Truth) {
         self.tables[usize::from(truth.0.is_none())] += 1;
         if let Some(related) = &truth.0 {
+            self.footprint.add(related.footprint);
             let all = [related.types.len(), related.pairs.len()];
             for (i, all) in all.into_iter().enumerate() {
                 self.asked[i] += related.asked[i];
@@ -213,6 +216,7 @@ impl Compare<'_> {
         let [types, pairs] = self.alone;
         let _ = writeln!(text, "the reference asked: types {}, pairs {}", self.asked[0], self.asked[1]);
         let _ = writeln!(text, "the model alone: types {types}, pairs {pairs}");
+        let _ = write!(text, "of the reference's answers, by paper 5:\n{}", self.footprint.text());
         let _ = writeln!(text, "differences {}", self.differences);
         text
     }
@@ -297,6 +301,7 @@ pub fn compare(seed: u64, count: usize, program: &Path, folder: &Path) -> Result
         refused: 0,
         asked: [0; 2],
         alone: [0; 2],
+        footprint: Footprint::default(),
         differences: 0,
     };
     for i in 0..count {

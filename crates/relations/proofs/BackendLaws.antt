@@ -15,7 +15,7 @@ use Rattle.types.specs.WordSize.{IrType, array, struct, function, more, join, i
 use Rattle.types.proofs.Laws.{either, same-true, unfolded-zero, unfolded-row, row-ok}
 use Rattle.types.proofs.Fixed.{each-below}
 use Rattle.relations.specs.Relations.{typesAreAssignable}
-use Rattle.relations.specs.Footprint.{containsUnknown, isPrevented, UnknownPrevents}
+use Rattle.relations.specs.Footprint.{containsUnknown, isMissing, UnknownPrevents}
 use Rattle.relations.proofs.AssignLaws.{turn, assign-turn}
 
 -- By the kind
@@ -60,16 +60,16 @@ assigned-ir t s e =
     ∙ desugar-ir s
 
 -- A backend type is missing where that of its one part is, or of one of its two
-one-missing : (f : IrType → IrType) (o : Option IrType) → isPrevented o ≡ isPrevented (Option·map f o)
+one-missing : (f : IrType → IrType) (o : Option IrType) → isMissing o ≡ isMissing (Option·map f o)
 one-missing f none = refl
 one-missing f (some t) = refl
 
-two-missing : (f : IrType → IrType → IrType) (o p : Option IrType) → (isPrevented o || isPrevented p) ≡ isPrevented (join f o p)
+two-missing : (f : IrType → IrType → IrType) (o p : Option IrType) → (isMissing o || isMissing p) ≡ isMissing (join f o p)
 two-missing f none p = refl
 two-missing f (some t) none = refl
 two-missing f (some t) (some u) = refl
 
--- A row of rows that are prevented by an Unknown alone is prevented by an Unknown alone
+-- A row lacks a backend type by an Unknown alone, if that is so of the rows that it points to
 module _ (w : List ℕ) (m : ℕ) (look : ℕ → Ty) (zero-is : look 0 ≡ end) (parts : (n : ℕ) → n ≤ m → UnknownPrevents (look n)) where
   no-row : (n : ℕ) → n ≡ 0 → containsUnknown (look n) ≡ false
   unfolding containsUnknown
@@ -78,11 +78,11 @@ module _ (w : List ℕ) (m : ℕ) (look : ℕ → Ty) (zero-is : look 0 ≡ end)
   no-parts : (x y : ℕ) → x ≡ 0 → y ≡ 0 → (containsUnknown (look x) || containsUnknown (look y)) ≡ false
   no-parts x y p q = rw (no-row x p, no-row y q)
 
-  one-part : (x y : ℕ) → x ≤ m → y ≡ 0 → (containsUnknown (look x) || containsUnknown (look y)) ≡ isPrevented (toIrType (look x))
+  one-part : (x y : ℕ) → x ≤ m → y ≡ 0 → (containsUnknown (look x) || containsUnknown (look y)) ≡ isMissing (toIrType (look x))
   one-part x y h q = rw (no-row y q) (or-false (containsUnknown (look x)) ∙ parts x h)
 
   two-parts : (f : IrType → IrType → IrType) (x y : ℕ) → x ≤ m → y ≤ m
-      → (containsUnknown (look x) || containsUnknown (look y)) ≡ isPrevented (join f (toIrType (look x)) (toIrType (look y)))
+      → (containsUnknown (look x) || containsUnknown (look y)) ≡ isMissing (join f (toIrType (look x)) (toIrType (look y)))
   two-parts f x y p q = (λ i. parts x p i || parts y q i) ∙ two-missing f (toIrType (look x)) (toIrType (look y))
 
   -- Of each kind

@@ -9,19 +9,20 @@ use native.Mathlib.Omega.{arith}
 use borrow.Author.Tests.{eqb-true}
 use lib.Dec.{eqb}
 use Rattle.types.specs.Ty.{Ty, end, node, is, kindOf, firstOf, same, desugar, u16Kind, i16Kind, pointerKind, distinctKind}
-use Rattle.types.specs.Table.{upTo, unfolded}
+use Rattle.types.specs.Table.{sizeWordAt, upTo, unfolded}
 use Rattle.types.specs.WordSize.{IrType, toIrType, irWordSize}
 use Rattle.types.proofs.Laws.{both, either, same-true, same-refl}
 use Rattle.types.proofs.Query.{desugar-other}
 use Rattle.relations.specs.Relations.{pair, typesAreAssignable, isIntegralKind, castKinds, castFits, isCastableTo}
-use Rattle.relations.specs.WordSize.{answered, wordSizeOf}
+use Rattle.relations.specs.WordSize.{answered, wordSizeOf, asWord}
 use Rattle.relations.specs.Entry.{TwoTypes}
-use Rattle.relations.specs.Footprint.{isPrevented, UnknownPrevents, SameBackend, Plain, Footprint}
+use Rattle.relations.specs.Footprint.{isMissing, UnknownPrevents, SameBackend, Plain, Footprint}
 use Rattle.relations.specs.Decay.{decayRows, decayCount, BothPlain}
 use Rattle.relations.specs.declared.WordSize.{WordSize}
 use Rattle.relations.specs.declared.WordSize.the-variants.{Words}
 use Rattle.relations.proofs.AssignLaws.{turn, assign-turn}
 use Rattle.relations.proofs.CastLaws.{targetFits, target-turn, source-turn}
+use Rattle.relations.proofs.WordLaws.{size-told}
 use Rattle.relations.proofs.BackendLaws.{kind-ir, desugar-ir, turn-cases, assigned-ir, unknown-prevents}
 use Rattle.relations.proofs.Decay.{decay}
 
@@ -97,6 +98,14 @@ cast-words s t e =
     λ u q. sym (found-words (targetFits u) (λ v. castFits (pair u v)) (target-turn u) (wordSizeOf u) (fits-words u) t q) in
     sym (found-words (λ u. isCastableTo u t) (λ u. targetFits u t) (source-turn t) (wordSizeOf t) target s e)
 
+-- So their rows have the same fifth word
+pub cast-sizes : (w : List ℕ) (count source target : ℕ) → TwoTypes w count source target → isCastableTo (unfolded w source) (unfolded w target) ≡ true
+    → sizeWordAt w source ≡ sizeWordAt w target
+cast-sizes w count source target types e =
+    sym (size-told w count source (record { table = types .table; type = types .first }))
+    ∙ ap asWord (cast-words (unfolded w source) (unfolded w target) e)
+    ∙ size-told w count target (record { table = types .table; type = types .second })
+
 -- Without a transparent alias at the top of either, what is assignable fits as it stands
 module _ (t s : Ty) (plain-target : Plain t) (plain-source : Plain s) where
   assigned-turn : typesAreAssignable t s ≡ true → turn t s ≡ true
@@ -111,29 +120,27 @@ module _ (t s : Ty) (plain-target : Plain t) (plain-source : Plain s) where
   pub assigned-castable : typesAreAssignable t s ≡ true → isCastableTo s t ≡ true
   assigned-castable e = source-turn t s ∙ rw (target-turn s t, turn-cases (castFits (pair s t) ≡ true) t s (assigned-turn e) equal-fits pointers-fit)
 
--- The same backend type, or none by an Unknown
+-- The same backend type, or none on either side and an Unknown on both
 same-backend : (t s : Ty) → UnknownPrevents t → UnknownPrevents s → toIrType t ≡ toIrType s → SameBackend t s
 same-backend t s prevents-t prevents-s e = go (toIrType t) refl
   where
     go : (o : Option IrType) → toIrType t ≡ o → SameBackend t s
     go (some ir) q = inl (ir, record { first = q; second = sym e ∙ q })
     go none q =
-        inr
-        (record {
-          first = prevents-t ∙ ap isPrevented q;
-          second = prevents-s ∙ ap isPrevented (sym e ∙ q);
-          prevents-first = prevents-t;
-          prevents-second = prevents-s;
-        })
+        let q′ = sym e ∙ q in
+        inr (record { unknown = prevents-t ∙ ap isMissing q; missing = q }, record { unknown = prevents-s ∙ ap isMissing q′; missing = q′ })
 
 -- Any two type rows of any rows that obey the rules
 pub footprint : (w : List ℕ) (count target source : ℕ) → TwoTypes w count target source → Footprint (unfolded w target) (unfolded w source)
 footprint w count target source types =
     let t = unfolded w target in
     let s = unfolded w source in
-    let prevents = unknown-prevents w count (types .table) in
+    let of-target = unknown-prevents w count (types .table) target (types .first .high) in
+    let of-source = unknown-prevents w count (types .table) source (types .second .high) in
     record {
-      assigned = λ e. same-backend t s (prevents target (types .first .high)) (prevents source (types .second .high)) (assigned-ir t s e);
+      target-unknown = of-target;
+      source-unknown = of-source;
+      assigned = λ e. same-backend t s of-target of-source (assigned-ir t s e);
       cast = λ e words known. sym (cast-words s t e) ∙ known;
       castable = assigned-castable t s;
     }

@@ -1,4 +1,4 @@
--- What assigning and casting keep of a type (document 02, paper 5): its backend type, its words, and the one without the other.
+-- What assigning and casting keep of a type (document 02, paper 5): the backend type, the words; and when assignable implies castable.
 use Prim.Native.Nat.{ℕ}
 use mathlib.Core.Path.{_≡_}
 use mathlib.Core.Bool.{Bool, true, false, not, _&&_, _||_}
@@ -17,35 +17,37 @@ containsUnknown end = false
 containsUnknown (node k a b s n) = eqb k unknownKind || (not (eqb k pointerKind) && (containsUnknown a || containsUnknown b))
 
 -- There is no backend type
-abbrev pub isPrevented : Option IrType → Bool
-isPrevented none = true
-isPrevented (some ir) = false
+abbrev pub isMissing : Option IrType → Bool
+isMissing none = true
+isMissing (some ir) = false
 
 -- An Unknown that is contained prevents a backend type, and nothing else does
 abbrev pub UnknownPrevents : Ty → Type 0
-UnknownPrevents t = containsUnknown t ≡ isPrevented (toIrType t)
+UnknownPrevents t = containsUnknown t ≡ isMissing (toIrType t)
 
 -- Both have this backend type
 pub record BothHave (t u : Ty) (ir : IrType) : Type 0 where
   pub first : toIrType t ≡ some ir
   pub second : toIrType u ≡ some ir
 
--- Both contain an Unknown that prevents one
-pub record BothUnknown (t u : Ty) : Type 0 where
-  pub first : containsUnknown t ≡ true
-  pub second : containsUnknown u ≡ true
-  pub prevents-first : UnknownPrevents t
-  pub prevents-second : UnknownPrevents u
+-- The type contains an Unknown that prevents a backend type
+pub record Prevented (t : Ty) : Type 0 where
+  pub unknown : containsUnknown t ≡ true
+  pub missing : toIrType t ≡ none
 
 -- Both have the same backend type, or both contain an Unknown that prevents one
 abbrev pub SameBackend : (t u : Ty) → Type 0
-SameBackend t u = ((ir : IrType) × BothHave t u ir) ⊎ BothUnknown t u
+SameBackend t u = ((ir : IrType) × BothHave t u ir) ⊎ (Prevented t × Prevented u)
 
 -- No transparent alias at its top
 abbrev pub Plain : Ty → Type 0
 Plain t = kindOf t ≡ aliasKind → ⊥
 
+-- What holds of any two type rows of any rows that obey the rules
 pub record Footprint (target source : Ty) : Type 0 where
+  -- of each, an Unknown that is contained prevents a backend type, and nothing else does
+  pub target-unknown : UnknownPrevents target
+  pub source-unknown : UnknownPrevents source
   -- a source assignable to a target: both have the same backend type, or both contain an Unknown that prevents one
   pub assigned : typesAreAssignable target source ≡ true → SameBackend target source
   -- a source castable to a target, its words known and not too large: the target's are the same number
