@@ -1,7 +1,7 @@
 #!/bin/sh
 # Builds the static library and the examples in C and Rust over it, and holds what they print of a module file, of the file cut short and
-# of a file of no bytes to what is expected. Then the Rust crate's tests, and the deepest and the longest modules on a thread with a stack
-# of 128 KB. Exits nonzero on a difference. Needs rt, cc and cargo on x86-64 Linux.
+# of a file of no bytes to what is expected. Then what is said of pointers behind aliases, the Rust crate's tests, and the deepest and the
+# longest modules on a thread with a stack of 128 KB. Exits nonzero on a difference. Needs rt, cc and cargo on x86-64 Linux.
 set -eu
 for needed in rt cc cargo; do
     command -v "$needed" >/dev/null || { echo "callers: $needed is needed and is not on the PATH" >&2; exit 2; }
@@ -13,7 +13,7 @@ unset DELTA_NULL_LIB # the library made here is the one that is linked
 
 echo "callers: exports is proved first, which takes some minutes from nothing ($out/staticlib.log)" >&2
 rt staticlib exports >"$out/staticlib.log" 2>&1 || { tail -5 "$out/staticlib.log"; exit 1; }
-for program in check_file stack; do
+for program in check_file decay stack; do
     cc -std=c11 -Wall -Wextra -Wpedantic -Werror -O2 -pthread -Iinclude "callers/c/$program.c" target/staticlib/libexports.a -o "$out/${program}_c"
 done
 cargo() { command cargo "$@" --quiet --offline --manifest-path callers/rust/Cargo.toml --target-dir "$out/rust"; }
@@ -34,6 +34,8 @@ expect "$out/short.module" "$out/short.expected"
 : >"$out/empty.module"
 { echo 'rows 7 errors 0' && tail -1 callers/example.expected; } >"$out/empty.expected"
 expect "$out/empty.module" "$out/empty.expected"
+"$out/decay_c" >"$out/printed" || { echo 'callers: decay was refused'; exit 1; }
+diff callers/decay.expected "$out/printed" || { echo 'callers: decay differs'; exit 1; }
 cargo test --release
 "$out/stack_c" >"$out/stack.log"
 tail -1 "$out/stack.log"

@@ -78,7 +78,8 @@ uint32_t delta_null_assignable(
     uint32_t count, uint32_t target, uint32_t source, uint32_t *answer);
 
 /* Whether a value of the type of row source may be cast to the type of row target: *answer is 1 or 0.
- * The table is the first count rows. Refused with 8 alone; then *answer is 0. Mind the order of the two rows. */
+ * The table is the first count rows. Refused with 8 alone; then *answer is 0. Mind the order of the two rows.
+ * If it may, the two rows have the same size: a cast keeps a value's words. */
 uint32_t delta_null_castable(
     const uint32_t *rows, size_t rows_length,
     uint32_t count, uint32_t source, uint32_t target, uint32_t *answer);

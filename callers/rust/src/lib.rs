@@ -131,7 +131,8 @@ pub fn assignable(rows: &[u32], count: u32, target: u32, source: u32) -> Result<
     answer(number, 0, yes == 1)
 }
 
-/// Whether a value of the type of row `source` may be cast to the type of row `target`. The table is the first `count` rows.
+/// Whether a value of the type of row `source` may be cast to the type of row `target`; if so, both have the same [`word_size`]. The
+/// table is the first `count` rows.
 pub fn castable(rows: &[u32], count: u32, source: u32, target: u32) -> Result<bool, Refused> {
     let mut yes = 0;
     // SAFETY: as in `assignable`.

@@ -140,6 +140,35 @@ fn relations() {
     assert_eq!(castable(&[], 0, 1, 1), refused(8, 0));
 }
 
+/// The rows of crates/relations/specs/Decay.antt: behind the seven an alias of `*u16`, `[4]u16`, `*[4]u16` and an alias of that pointer.
+fn decay_table() -> Vec<u32> {
+    let more = [[10, 6, 0, 0, 1], [7, 4, 4, 0, 4], [6, 9, 0, 0, 1], [10, 10, 0, 1, 1]];
+    [&table()[..FIXED], &more.concat()].concat()
+}
+
+/// A pointer behind a transparent alias decays and cannot be cast; of all pairs, a cast keeps the words, and what is assignable can be
+/// cast unless one of the two is such an alias.
+#[test]
+fn casts_keep_words() {
+    let rows = decay_table();
+    for (source, target, cast) in [(10, 6, true), (11, 6, false), (10, 8, false)] {
+        assert_eq!(assignable(&rows, COUNT, target, source), Ok(true));
+        assert_eq!(castable(&rows, COUNT, source, target), Ok(cast));
+    }
+    let is_alias = |row: u32| rows[ROW_WORDS * (row as usize - 1)] == 10;
+    for source in 1..=COUNT {
+        for target in 1..=COUNT {
+            let cast = castable(&rows, COUNT, source, target).unwrap();
+            if cast {
+                assert_eq!(word_size(&rows, COUNT, source), word_size(&rows, COUNT, target));
+            }
+            if assignable(&rows, COUNT, target, source).unwrap() && !is_alias(source) && !is_alias(target) {
+                assert!(cast, "{source} to {target}");
+            }
+        }
+    }
+}
+
 /// A table with so many rows, `[size]u16` of different sizes, whose rows share one bucket of the index of rows or not.
 fn array_table(count: usize, one_bucket: bool) -> Vec<u32> {
     let bucket = |size: u64| (7 * 268435399 + 4 * 165580141 + size * 228826127) / 262144 % 512;
