@@ -35,7 +35,7 @@ fn add_row(random: &mut Random, rows: &mut Rows) {
     let ty = if random.chance(60) { *random.pick(&types[recent..]) } else { *random.pick(&types) };
     let name = random.below(5) as u32;
     let size = *random.pick(&[0, 1, 2, 3, 4, 16, 255, 256, 257, 65_535, 65_536, u32::MAX]);
-    match random.below(12) {
+    match random.below(13) {
         0 | 1 => rows.pointer(ty),
         2 | 3 => rows.array(ty, size),
         4 => rows.put(kind::STRUCT, *random.pick(&fields), 0, 0),
@@ -43,8 +43,25 @@ fn add_row(random: &mut Random, rows: &mut Rows) {
         6 | 7 => rows.alias(ty, name, false),
         8 | 9 => rows.alias(ty, name, true),
         10 => rows.put(kind::FIELD, ty, *random.pick(&fields), name),
-        _ => rows.put(kind::ARGUMENT, ty, *random.pick(&arguments), 0),
+        11 => rows.put(kind::ARGUMENT, ty, *random.pick(&arguments), 0),
+        _ => add_decay(random, rows, ty, size),
     };
+}
+
+/// A pointer to a type and a pointer to an array of it, which decays to the first; up to three levels of both, each now and then behind an
+/// alias. The number of the second.
+fn add_decay(random: &mut Random, rows: &mut Rows, ty: u32, size: u32) -> u32 {
+    let (mut target, mut source) = (ty, ty);
+    for _ in 0..random.between(1, 3) {
+        let array = rows.array(source, size);
+        (target, source) = (rows.pointer(target), rows.pointer(array));
+        for side in [&mut target, &mut source] {
+            if random.chance(35) {
+                *side = rows.alias(*side, random.below(5) as u32, random.chance(25));
+            }
+        }
+    }
+    source
 }
 
 fn all_rows(rows: &Rows) -> Vec<Row> {
