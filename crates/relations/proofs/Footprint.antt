@@ -2,24 +2,24 @@
 use Prim.Native.Nat.{ℕ}
 use mathlib.Core.Path.{_≡_, refl, sym, ap, _∙_}
 use mathlib.Core.List.{List}
-use mathlib.Core.Bool.{Bool, true, false, _&&_, _||_, or-true, or-false, and-false, false≢true}
-use mathlib.Core.Option.{Option, none, some}
+use mathlib.Core.Bool.{Bool, true, false, cond, _&&_, _||_, or-true, or-false, and-false, false≢true}
+use mathlib.Core.Option.{Option, none, some, Option·map}
 use mathlib.Core.Logic.{_⊎_, inl, inr, ⊎-elim}
 use native.Mathlib.Omega.{arith}
 use borrow.Author.Tests.{eqb-true}
-use lib.Dec.{eqb}
+use lib.Dec.{eqb, leb}
 use Rattle.types.specs.Ty.{Ty, end, node, is, kindOf, firstOf, same, desugar, u16Kind, i16Kind, pointerKind, distinctKind}
 use Rattle.types.specs.Table.{sizeWordAt, upTo, unfolded}
 use Rattle.types.specs.WordSize.{IrType, toIrType, irWordSize}
 use Rattle.types.proofs.Laws.{both, either, same-true, same-refl}
 use Rattle.types.proofs.Query.{desugar-other}
 use Rattle.relations.specs.Relations.{pair, typesAreAssignable, isIntegralKind, castKinds, castFits, isCastableTo}
-use Rattle.relations.specs.WordSize.{answered, wordSizeOf, asWord}
+use Rattle.relations.specs.WordSize.{largest, answered, wordSizeOf, asWord}
 use Rattle.relations.specs.Entry.{TwoTypes}
-use Rattle.relations.specs.Footprint.{isMissing, UnknownPrevents, SameBackend, Plain, Footprint}
+use Rattle.relations.specs.Footprint.{isMissing, UnknownPrevents, SameBackend, exactWords, Plain, Footprint}
 use Rattle.relations.specs.Decay.{decayRows, decayCount, BothPlain}
 use Rattle.relations.specs.declared.WordSize.{WordSize}
-use Rattle.relations.specs.declared.WordSize.the-variants.{Words}
+use Rattle.relations.specs.declared.WordSize.the-variants.{Words, TooLarge, Unknown}
 use Rattle.relations.proofs.AssignLaws.{turn, assign-turn}
 use Rattle.relations.proofs.CastLaws.{targetFits, target-turn, source-turn}
 use Rattle.relations.proofs.WordLaws.{size-told}
@@ -30,18 +30,18 @@ use Rattle.relations.proofs.Decay.{decay}
 oneWord : (kind : ℕ) → Bool
 oneWord k = isIntegralKind k || eqb k pointerKind
 
-one-word : (t : Ty) → oneWord (kindOf t) ≡ true → wordSizeOf t ≡ Words 1
-unfolding oneWord wordSizeOf irWordSize
+one-word : (t : Ty) → oneWord (kindOf t) ≡ true → exactWords t ≡ some 1
+unfolding oneWord exactWords irWordSize
 one-word t e = ⊎-elim (λ q. ⊎-elim of-u16 of-i16 (either (eqb (kindOf t) u16Kind) (eqb (kindOf t) i16Kind) q)) of-pointer (either (isIntegralKind (kindOf t)) (eqb (kindOf t) pointerKind) e)
   where
-    of-u16 : eqb (kindOf t) u16Kind ≡ true → wordSizeOf t ≡ Words 1
-    of-u16 q = ap answered (kind-ir t u16Kind (omega arith) (eqb-true (kindOf t) u16Kind q))
+    of-u16 : eqb (kindOf t) u16Kind ≡ true → exactWords t ≡ some 1
+    of-u16 q = ap (Option·map irWordSize) (kind-ir t u16Kind (omega arith) (eqb-true (kindOf t) u16Kind q))
 
-    of-i16 : eqb (kindOf t) i16Kind ≡ true → wordSizeOf t ≡ Words 1
-    of-i16 q = ap answered (kind-ir t i16Kind (omega arith) (eqb-true (kindOf t) i16Kind q))
+    of-i16 : eqb (kindOf t) i16Kind ≡ true → exactWords t ≡ some 1
+    of-i16 q = ap (Option·map irWordSize) (kind-ir t i16Kind (omega arith) (eqb-true (kindOf t) i16Kind q))
 
-    of-pointer : eqb (kindOf t) pointerKind ≡ true → wordSizeOf t ≡ Words 1
-    of-pointer q = ap answered (kind-ir t pointerKind (omega arith) (eqb-true (kindOf t) pointerKind q))
+    of-pointer : eqb (kindOf t) pointerKind ≡ true → exactWords t ≡ some 1
+    of-pointer q = ap (Option·map irWordSize) (kind-ir t pointerKind (omega arith) (eqb-true (kindOf t) pointerKind q))
 
 one-of-three : (k : ℕ) → (eqb k u16Kind ≡ false → eqb k i16Kind ≡ false → eqb k pointerKind ≡ false → ⊥) → oneWord k ≡ true
 unfolding oneWord
@@ -60,45 +60,59 @@ source-one j k e = one-of-three j (λ u i p. false≢true (simp (u, i, p) at e))
 target-one : (j k : ℕ) → castKinds j k ≡ true → oneWord k ≡ true
 target-one j k e = one-of-three k (λ u i p. false≢true (simp (u, i, p, and-false, or-false) at e))
 
-kinds-words : (s t : Ty) → castKinds (kindOf s) (kindOf t) ≡ true → wordSizeOf s ≡ wordSizeOf t
+kinds-words : (s t : Ty) → castKinds (kindOf s) (kindOf t) ≡ true → exactWords s ≡ exactWords t
 kinds-words s t e = one-word s (source-one (kindOf s) (kindOf t) e) ∙ sym (one-word t (target-one (kindOf s) (kindOf t) e))
 
 -- A pair that fits has the same words
-fits-words : (s t : Ty) → castFits (pair s t) ≡ true → wordSizeOf s ≡ wordSizeOf t
-unfolding wordSizeOf
+fits-words : (s t : Ty) → castFits (pair s t) ≡ true → exactWords s ≡ exactWords t
+unfolding exactWords
 fits-words s t e =
     ⊎-elim
     (λ q. kinds-words s t q)
-    (λ q. ap answered (sym (desugar-ir s) ∙ ap toIrType (same-true (desugar s) (desugar t) q) ∙ desugar-ir t))
+    (λ q. ap (Option·map irWordSize) (sym (desugar-ir s) ∙ ap toIrType (same-true (desugar s) (desugar t) q) ∙ desugar-ir t))
     (either (castKinds (kindOf s) (kindOf t)) (same (desugar s) (desugar t)) e)
 
 -- A distinct alias has the words of what it stands for
-stripped-words : (t : Ty) → is distinctKind t ≡ true → wordSizeOf t ≡ wordSizeOf (firstOf t)
-unfolding wordSizeOf
-stripped-words t e = ap answered (kind-ir t distinctKind (omega arith) (eqb-true (kindOf t) distinctKind e))
+stripped-words : (t : Ty) → is distinctKind t ≡ true → exactWords t ≡ exactWords (firstOf t)
+unfolding exactWords
+stripped-words t e = ap (Option·map irWordSize) (kind-ir t distinctKind (omega arith) (eqb-true (kindOf t) distinctKind e))
 
--- A search over the strips of a type that finds a type of such a size was over a type of that size
+-- A search over the strips of a type that finds a type of so many words was over a type of as many
 module _ (searched test : Ty → Bool) (turn : (t : Ty) → searched t ≡ (test t || (is distinctKind t && searched (firstOf t))))
-    (size : WordSize) (tested : (t : Ty) → test t ≡ true → size ≡ wordSizeOf t) where
-  found-words : (t : Ty) → searched t ≡ true → size ≡ wordSizeOf t
+    (words : Option ℕ) (tested : (t : Ty) → test t ≡ true → words ≡ exactWords t) where
+  found-words : (t : Ty) → searched t ≡ true → words ≡ exactWords t
   found-words end e = ⊎-elim (tested end) (λ q. absurd (false≢true q)) (either (test end) false (sym (turn end) ∙ e))
   found-words (node k a b z n) e = go (found-words a) (either (test t) (eqb k distinctKind && searched a) (sym (turn t) ∙ e))
     where
       t : Ty
       t = node k a b z n
 
-      go : (searched a ≡ true → size ≡ wordSizeOf a) → (test t ≡ true) ⊎ ((eqb k distinctKind && searched a) ≡ true) → size ≡ wordSizeOf t
+      go : (searched a ≡ true → words ≡ exactWords a) → (test t ≡ true) ⊎ ((eqb k distinctKind && searched a) ≡ true) → words ≡ exactWords t
       go inner (inl q) = tested t q
       go inner (inr q) = let r = both (eqb k distinctKind) (searched a) q in inner (r .1) ∙ sym (stripped-words t (r .0))
 
--- Types that can be cast have the same words, or both too many, or both an Unknown inside
-pub cast-words : (s t : Ty) → isCastableTo s t ≡ true → wordSizeOf s ≡ wordSizeOf t
-cast-words s t e =
-    let target : (u : Ty) → targetFits u t ≡ true → wordSizeOf t ≡ wordSizeOf u =
-    λ u q. sym (found-words (targetFits u) (λ v. castFits (pair u v)) (target-turn u) (wordSizeOf u) (fits-words u) t q) in
-    sym (found-words (λ u. isCastableTo u t) (λ u. targetFits u t) (source-turn t) (wordSizeOf t) target s e)
+-- Types that can be cast have the same words, however many, or neither has any
+pub cast-exact : (s t : Ty) → isCastableTo s t ≡ true → exactWords s ≡ exactWords t
+cast-exact s t e =
+    let target : (u : Ty) → targetFits u t ≡ true → exactWords t ≡ exactWords u =
+    λ u q. sym (found-words (targetFits u) (λ v. castFits (pair u v)) (target-turn u) (exactWords u) (fits-words u) t q) in
+    sym (found-words (λ u. isCastableTo u t) (λ u. targetFits u t) (source-turn t) (exactWords t) target s e)
 
--- So their rows have the same fifth word
+-- So they have the same words answer
+toldOf : Option ℕ → WordSize
+toldOf none = Unknown
+toldOf (some n) = cond (leb n largest) (Words n) TooLarge
+
+told-of : (o : Option IrType) → answered o ≡ toldOf (Option·map irWordSize o)
+unfolding toldOf
+told-of none = refl
+told-of (some ir) = refl
+
+pub cast-words : (s t : Ty) → isCastableTo s t ≡ true → wordSizeOf s ≡ wordSizeOf t
+unfolding exactWords wordSizeOf
+cast-words s t e = told-of (toIrType s) ∙ ap toldOf (cast-exact s t e) ∙ sym (told-of (toIrType t))
+
+-- and their rows the same fifth word
 pub cast-sizes : (w : List ℕ) (count source target : ℕ) → TwoTypes w count source target → isCastableTo (unfolded w source) (unfolded w target) ≡ true
     → sizeWordAt w source ≡ sizeWordAt w target
 cast-sizes w count source target types e =

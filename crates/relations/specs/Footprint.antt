@@ -2,11 +2,11 @@
 use Prim.Native.Nat.{ℕ}
 use mathlib.Core.Path.{_≡_}
 use mathlib.Core.Bool.{Bool, true, false, not, _&&_, _||_}
-use mathlib.Core.Option.{Option, none, some}
+use mathlib.Core.Option.{Option, none, some, Option·map}
 use mathlib.Core.Logic.{_⊎_}
 use lib.Dec.{eqb}
 use Rattle.types.specs.Ty.{Ty, end, node, kindOf, unknownKind, pointerKind, aliasKind}
-use Rattle.types.specs.WordSize.{IrType, toIrType}
+use Rattle.types.specs.WordSize.{IrType, toIrType, irWordSize}
 use Rattle.relations.specs.Relations.{typesAreAssignable, isCastableTo}
 use Rattle.relations.specs.WordSize.{wordSizeOf}
 use Rattle.relations.specs.declared.WordSize.the-variants.{Words}
@@ -38,6 +38,10 @@ pub record Prevented (t : Ty) : Type 0 where
 -- Both have the same backend type, or both contain an Unknown that prevents one
 abbrev pub SameBackend : (t u : Ty) → Type 0
 SameBackend t u = ((ir : IrType) × BothHave t u ir) ⊎ (Prevented t × Prevented u)
+
+-- How many words a type has, however many; none without a backend type
+unfoldable pub exactWords : Ty → Option ℕ
+exactWords t = Option·map irWordSize (toIrType t)
 
 -- No transparent alias at its top
 abbrev pub Plain : Ty → Type 0
