@@ -78,11 +78,17 @@ uint32_t delta_null_assignable(
     uint32_t count, uint32_t target, uint32_t source, uint32_t *answer);
 
 /* Whether a value of the type of row source may be cast to the type of row target: *answer is 1 or 0.
- * The table is the first count rows. Refused with 8 alone; then *answer is 0. Mind the order of the two rows.
- * If it may, the two rows have the same size: a cast keeps a value's words. */
+ * The table is the first count rows. Refused with 8 alone; then *answer and *pairs are 0. Mind the order of the two rows.
+ * If it may, the two rows have the same size: a cast keeps a value's words.
+ *
+ * *pairs is how many pairs were tried. The strips of a type are the type with 0, 1, 2 .. distinct aliases taken off its top; a transparent
+ * alias ends them. Each strip of the source from 0 on is tried with each strip of the target from 0 on, up to the first pair that fits,
+ * which is counted too. Accepted, with n distinct aliases at the top of the source and m at the target's, *pairs is at least 1 and at
+ * most (n + 1) * (m + 1), and exactly that if *answer is 0; it may be past 32 bits.
+ * The time grows with the rows and with *pairs. A cast in a module that is checked takes about n + m steps instead. */
 uint32_t delta_null_castable(
     const uint32_t *rows, size_t rows_length,
-    uint32_t count, uint32_t source, uint32_t target, uint32_t *answer);
+    uint32_t count, uint32_t source, uint32_t target, uint32_t *answer, uint64_t *pairs);
 
 /* How many words the type of row n has: *size is the row's size, at most 65,535 or one of the two above.
  * The table is the first count rows. Refused with 8 alone; then *size is 0. */

@@ -1,6 +1,6 @@
 /* Checks a module file and prints as the report program does: the counts, then kind, file, line and column of each error; turned back,
  * the number and the place. Last come two answers about rows, which any table has: what the other three functions say of them. */
-#include <stdint.h>
+#include <inttypes.h>
 #include <stdio.h>
 
 #include "delta_null_type_check.h"
@@ -31,11 +31,12 @@ static void print_errors(size_t count)
 static uint32_t print_relations(uint32_t count)
 {
     uint32_t assignable, castable, size, refused;
+    uint64_t pairs;
     refused = delta_null_assignable(rows, words(sizeof rows), count, U16_ROW, I16_ROW, &assignable);
     if (refused != 0) {
         return refused;
     }
-    refused = delta_null_castable(rows, words(sizeof rows), count, I16_ROW, U16_ROW, &castable);
+    refused = delta_null_castable(rows, words(sizeof rows), count, I16_ROW, U16_ROW, &castable, &pairs);
     if (refused != 0) {
         return refused;
     }
@@ -43,7 +44,7 @@ static uint32_t print_relations(uint32_t count)
     if (refused != 0) {
         return refused;
     }
-    printf("i16 to u16: assignable %u castable %u; void: words %u\n", assignable, castable, size);
+    printf("i16 to u16: assignable %u castable %u pairs %" PRIu64 "; void: words %u\n", assignable, castable, pairs, size);
     return 0;
 }
 

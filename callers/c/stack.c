@@ -1,6 +1,7 @@
 /* Checks the deepest and the longest modules on a thread with a small stack:  stack [BYTES], 131,072 unless told otherwise.
  * A line for each module: its words, its bytes and levels, and the bytes of stack that the check takes, below the caller's frame
- * and in all. Ends with 1 if a module needs more, is not answered as expected, or what is lent is not left as promised. */
+ * and in all; last, the same for the dearest cast that the rows have room for. Ends with 1 if one needs more, is not answered as
+ * expected, or what is lent is not left as promised. */
 #define _DEFAULT_SOURCE /* for MAP_ANONYMOUS */
 #include <ctype.h>
 #include <pthread.h>
@@ -257,11 +258,28 @@ static __attribute__((noinline)) void catch_faults(void)
     }
 }
 
+/* The stack that was taken, below the frame of the caller and in all. */
+struct taken {
+    size_t below, whole;
+};
+
+static struct taken take_stock(const void *frame)
+{
+    size_t untouched = 0;
+    while (stack[untouched] == FILL) {
+        untouched++;
+    }
+    size_t whole = stack_bytes - untouched;
+    most_taken = whole > most_taken ? whole : most_taken;
+    return (struct taken){.below = (size_t)((const uint8_t *)frame - stack) - untouched, .whole = whole};
+}
+
 /* A call: the words lent for rows and errors, the answer, and the stack that was taken. */
 struct call {
     size_t row_words, error_words;
     uint32_t refused, rows;
-    size_t errors, place, below, whole;
+    size_t errors, place;
+    struct taken taken;
 };
 
 /* The call on the thread, whose stack is counted from the frame of this function. */
@@ -272,30 +290,46 @@ static void *check(void *given)
     call->refused = delta_null_type_check_module(
         input, length, output, MOST_BYTES, rows, call->row_words, errors, call->error_words, work, WORK_WORDS,
         &call->rows, &call->errors, &call->place);
-    size_t untouched = 0;
-    while (stack[untouched] == FILL) {
-        untouched++;
-    }
-    call->below = (size_t)((uint8_t *)__builtin_frame_address(0) - stack) - untouched;
-    call->whole = stack_bytes - untouched;
-    most_taken = call->whole > most_taken ? call->whole : most_taken;
+    call->taken = take_stock(__builtin_frame_address(0));
     return NULL;
 }
 
-static void run_call(struct call *call)
+/* A question: the rows, the answer, and the stack that was taken. */
+struct question {
+    uint32_t count, source, target, refused, answer;
+    uint64_t pairs;
+    struct taken taken;
+};
+
+static void *ask(void *given)
+{
+    struct question *question = given;
+    catch_faults();
+    question->refused = delta_null_castable(
+        rows, ROW_WORDS, question->count, question->source, question->target, &question->answer, &question->pairs);
+    question->taken = take_stock(__builtin_frame_address(0));
+    return NULL;
+}
+
+static void on_thread(void *(*run)(void *), void *given)
 {
     pthread_attr_t attributes;
     pthread_t thread;
     memset(stack, FILL, stack_bytes);
+    if (pthread_attr_init(&attributes) != 0 || pthread_attr_setstack(&attributes, stack, stack_bytes) != 0
+        || pthread_create(&thread, &attributes, run, given) != 0 || pthread_join(thread, NULL) != 0) {
+        stop("no thread with such a stack");
+    }
+    pthread_attr_destroy(&attributes);
+}
+
+static void run_call(struct call *call)
+{
     memset(output, FILL, sizeof output);
     memset(rows, FILL, sizeof rows);
     memset(errors, FILL, sizeof errors);
     memset(work, FILL, sizeof work);
-    if (pthread_attr_init(&attributes) != 0 || pthread_attr_setstack(&attributes, stack, stack_bytes) != 0
-        || pthread_create(&thread, &attributes, check, call) != 0 || pthread_join(thread, NULL) != 0) {
-        stop("no thread with such a stack");
-    }
-    pthread_attr_destroy(&attributes);
+    on_thread(check, call);
 }
 
 /* Whether the first bytes of a part are 0, if they are to be, and all others are as they were. */
@@ -351,7 +385,38 @@ static void measure(const struct told *told)
     if (told->errors > 0) {
         expect(ROW_WORDS, DELTA_NULL_ERROR_WORDS * told->errors - 1, DELTA_NULL_TOO_MANY_ERRORS, 0, 0);
     }
-    printf("%-78s %5zu bytes %2u levels: stack %6zu, in all %6zu\n", items, length, deepest, roomy.below, roomy.whole);
+    printf("%-78s %5zu bytes %2u levels: stack %6zu, in all %6zu\n", items, length, deepest, roomy.taken.below, roomy.taken.whole);
+}
+
+/* Adds so many distinct aliases over a row of one word behind the others; the last of them. */
+static uint32_t add_aliases(uint32_t *count, uint32_t of, uint32_t aliases)
+{
+    while (aliases-- > 0) {
+        const uint32_t row[DELTA_NULL_ROW_WORDS] = {11, of, 0, 0, 1};
+        memcpy(rows + DELTA_NULL_ROW_WORDS * *count, row, sizeof row);
+        of = ++*count;
+    }
+    return of;
+}
+
+/* Asks for the cast from distinct aliases over bool to as many over u16, behind the rows of a module without items. */
+static void measure_cast(void)
+{
+    uint32_t aliases = (ROW_WORDS / DELTA_NULL_ROW_WORDS - 7) / 2;
+    struct question question = {.count = 7};
+    struct call fixed = {.row_words = ROW_WORDS, .error_words = ERROR_WORDS};
+    snprintf(needs_more, sizeof needs_more, "stack: a cast: more than %zu bytes are needed\n", stack_bytes);
+    length = 0;
+    run_call(&fixed);
+    question.source = add_aliases(&question.count, 3, aliases);
+    question.target = add_aliases(&question.count, 4, aliases);
+    on_thread(ask, &question);
+    if (fixed.refused != 0 || question.refused != 0 || question.answer != 0
+        || question.pairs != (uint64_t)(aliases + 1) * (aliases + 1)) {
+        stop("another answer is expected of a cast");
+    }
+    printf("a cast between %u distinct aliases and %u: stack %6zu, in all %6zu\n", aliases, aliases, question.taken.below,
+        question.taken.whole);
 }
 
 int main(int argc, char **argv)
@@ -367,6 +432,7 @@ int main(int argc, char **argv)
     for (size_t i = 0; i < sizeof modules / sizeof modules[0]; i++) {
         measure(&modules[i]);
     }
+    measure_cast();
     printf("stack: at most %zu bytes of %zu\n", most_taken, stack_bytes);
     return 0;
 }

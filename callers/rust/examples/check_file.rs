@@ -28,13 +28,14 @@ fn check(input: &[u8]) -> Result<(), Refused> {
         println!("{} {} {} {}", e[0], e[1], e[2], e[3]);
     }
     let assignable = assignable(&rows, counts.rows, U16, I16)?;
-    let castable = castable(&rows, counts.rows, I16, U16)?;
+    let cast = castable(&rows, counts.rows, I16, U16)?;
     let words = match word_size(&rows, counts.rows, VOID)? {
         WordSize::Words(words) => words.to_string(),
         WordSize::TooLarge => "too large".to_string(),
         WordSize::Unknown => "unknown".to_string(),
     };
-    println!("i16 to u16: assignable {} castable {}; void: words {words}", assignable as u32, castable as u32);
+    let (assignable, castable) = (assignable as u32, cast.castable as u32);
+    println!("i16 to u16: assignable {assignable} castable {castable} pairs {}; void: words {words}", cast.pairs);
     Ok(())
 }
 

@@ -52,6 +52,7 @@ unsafe extern "C" {
         source: u32,
         target: u32,
         answer: *mut u32,
+        pairs: *mut u64,
     ) -> u32;
 
     fn delta_null_word_size(rows: *const u32, rows_length: usize, count: u32, n: u32, size: *mut u32) -> u32;
@@ -78,6 +79,13 @@ impl fmt::Display for Refused {
 }
 
 impl Error for Refused {}
+
+/// Whether a value may be cast, and how many pairs of strips were tried to say so (the header says which).
+#[derive(Clone, Copy, Debug, PartialEq, Eq)]
+pub struct Cast {
+    pub castable: bool,
+    pub pairs: u64,
+}
 
 /// How many words a type has.
 #[derive(Clone, Copy, Debug, PartialEq, Eq)]
@@ -132,12 +140,13 @@ pub fn assignable(rows: &[u32], count: u32, target: u32, source: u32) -> Result<
 }
 
 /// Whether a value of the type of row `source` may be cast to the type of row `target`; if so, both have the same [`word_size`]. The
-/// table is the first `count` rows.
-pub fn castable(rows: &[u32], count: u32, source: u32, target: u32) -> Result<bool, Refused> {
-    let mut yes = 0;
+/// table is the first `count` rows. The time grows with the pairs, which are at most (n + 1) * (m + 1) with n distinct aliases at the top
+/// of the source and m at the target's, and exactly so many if the answer is no.
+pub fn castable(rows: &[u32], count: u32, source: u32, target: u32) -> Result<Cast, Refused> {
+    let (mut yes, mut pairs) = (0, 0);
     // SAFETY: as in `assignable`.
-    let number = unsafe { delta_null_castable(rows.as_ptr(), rows.len(), count, source, target, &mut yes) };
-    answer(number, 0, yes == 1)
+    let number = unsafe { delta_null_castable(rows.as_ptr(), rows.len(), count, source, target, &mut yes, &mut pairs) };
+    answer(number, 0, Cast { castable: yes == 1, pairs })
 }
 
 /// How many words the type of row `n` has. The table is the first `count` rows.

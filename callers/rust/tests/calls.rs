@@ -1,11 +1,13 @@
 //! Each function, each of its refusals, and what each leaves in the parts lent.
+mod common;
+
+use common::{FIXED, cast, refused, with_fixed};
 use delta_null_type_check::{Counts, ROW_WORDS, Refused, WordSize};
 use delta_null_type_check::{assignable, castable, type_check_module, word_size};
 
 const MODULE: &[u8] = include_bytes!("../../example.module");
 
-/// The words of the seven rows of every table, the working words of its two names, and the place of its one slot.
-const FIXED: usize = 7 * ROW_WORDS;
+/// The working words of its two names, and the place of its one slot.
 const WORK: usize = 8;
 const SLOT: usize = 104;
 
@@ -22,10 +24,6 @@ fn lend(output: usize, rows: usize, errors: usize, work: usize) -> Lent {
 
 fn check(input: &[u8], lent: &mut Lent) -> Result<Counts, Refused> {
     type_check_module(input, &mut lent.output, &mut lent.rows, &mut lent.errors, &mut lent.work)
-}
-
-fn refused<T>(number: u32, place: usize) -> Result<T, Refused> {
-    Err(Refused { number, place })
 }
 
 fn untouched(lent: &Lent) -> bool {
@@ -104,20 +102,7 @@ fn module_refused_emptied() {
 const COUNT: u32 = 11;
 
 fn table() -> Vec<u32> {
-    [
-        [1, 0, 0, 0, 65537],
-        [2, 0, 0, 0, 0],
-        [3, 0, 0, 0, 1],
-        [4, 0, 0, 0, 1],
-        [5, 0, 0, 0, 1],
-        [6, 4, 0, 0, 1],
-        [11, 6, 0, 65535, 1],
-        [7, 4, 4, 0, 4],
-        [6, 8, 0, 0, 1],
-        [7, 4, 65536, 0, 65536],
-        [10, 4, 0, 0, 1],
-    ]
-    .concat()
+    with_fixed(&[[7, 4, 4, 0, 4], [6, 8, 0, 0, 1], [7, 4, 65536, 0, 65536], [10, 4, 0, 0, 1]])
 }
 
 #[test]
@@ -128,10 +113,10 @@ fn relations() {
     assert_eq!(assignable(&rows, COUNT, 9, 6), Ok(false));
     // A transparent alias of u16 to i16: neither.
     assert_eq!(assignable(&rows, COUNT, 5, 11), Ok(false));
-    assert_eq!(castable(&rows, COUNT, 11, 5), Ok(false));
-    assert_eq!(castable(&rows, COUNT, 4, 5), Ok(true));
+    assert_eq!(castable(&rows, COUNT, 11, 5), cast(false, 1));
+    assert_eq!(castable(&rows, COUNT, 4, 5), cast(true, 1));
     // String to u16, through its pointer.
-    assert_eq!(castable(&rows, COUNT, 7, 4), Ok(true));
+    assert_eq!(castable(&rows, COUNT, 7, 4), cast(true, 2));
     for bad in [0, COUNT + 1] {
         assert_eq!(assignable(&rows, COUNT, 4, bad), refused(8, 0));
         assert_eq!(castable(&rows, COUNT, bad, 4), refused(8, 0));
@@ -142,8 +127,7 @@ fn relations() {
 
 /// The rows of crates/relations/specs/Decay.antt: behind the seven an alias of `*u16`, `[4]u16`, `*[4]u16` and an alias of that pointer.
 fn decay_table() -> Vec<u32> {
-    let more = [[10, 6, 0, 0, 1], [7, 4, 4, 0, 4], [6, 9, 0, 0, 1], [10, 10, 0, 1, 1]];
-    [&table()[..FIXED], &more.concat()].concat()
+    with_fixed(&[[10, 6, 0, 0, 1], [7, 4, 4, 0, 4], [6, 9, 0, 0, 1], [10, 10, 0, 1, 1]])
 }
 
 /// A pointer behind a transparent alias decays and cannot be cast; of all pairs, a cast keeps the words, and what is assignable can be
@@ -151,19 +135,19 @@ fn decay_table() -> Vec<u32> {
 #[test]
 fn casts_keep_words() {
     let rows = decay_table();
-    for (source, target, cast) in [(10, 6, true), (11, 6, false), (10, 8, false)] {
+    for (source, target, yes) in [(10, 6, true), (11, 6, false), (10, 8, false)] {
         assert_eq!(assignable(&rows, COUNT, target, source), Ok(true));
-        assert_eq!(castable(&rows, COUNT, source, target), Ok(cast));
+        assert_eq!(castable(&rows, COUNT, source, target), cast(yes, 1));
     }
     let is_alias = |row: u32| rows[ROW_WORDS * (row as usize - 1)] == 10;
     for source in 1..=COUNT {
         for target in 1..=COUNT {
-            let cast = castable(&rows, COUNT, source, target).unwrap();
-            if cast {
+            let castable = castable(&rows, COUNT, source, target).unwrap().castable;
+            if castable {
                 assert_eq!(word_size(&rows, COUNT, source), word_size(&rows, COUNT, target));
             }
             if assignable(&rows, COUNT, target, source).unwrap() && !is_alias(source) && !is_alias(target) {
-                assert!(cast, "{source} to {target}");
+                assert!(castable, "{source} to {target}");
             }
         }
     }
@@ -173,7 +157,7 @@ fn casts_keep_words() {
 fn array_table(count: usize, one_bucket: bool) -> Vec<u32> {
     let bucket = |size: u64| (7 * 268435399 + 4 * 165580141 + size * 228826127) / 262144 % 512;
     let sizes = (0..).filter(|&size| !one_bucket || bucket(size) == 0);
-    let mut rows = table()[..FIXED].to_vec();
+    let mut rows = with_fixed(&[]);
     rows.extend(sizes.take(count - 7).flat_map(|size| [7, 4, size as u32, 0, size.min(65536) as u32]));
     rows
 }
@@ -218,7 +202,7 @@ fn sizes() {
 /// A row of each of the 13 kinds, with its size: rows 1 to 7, `[3]u16`, two field cells of it, their struct, an argument cell, a function
 /// and an alias.
 fn every_kind() -> Vec<u32> {
-    let more = [
+    with_fixed(&[
         [7, 4, 3, 0, 3],
         [12, 4, 0, 1, 1],
         [12, 8, 9, 2, 4],
@@ -226,8 +210,7 @@ fn every_kind() -> Vec<u32> {
         [13, 8, 0, 0, 0],
         [9, 1, 12, 0, 65537],
         [10, 11, 0, 3, 4],
-    ];
-    [&table()[..FIXED], &more.concat()].concat()
+    ])
 }
 
 /// All three questions are refused with 8 if the fifth word of one row is wrong, though they are not about that row.

@@ -10,7 +10,7 @@ use Rattle.types.specs.Table.{unfolded, Table, IsType, IsCell}
 use Rattle.types.specs.Post.{TypePart, CellPart, HasTypePart}
 use Rattle.types.proofs.Laws.{unfolded-zero}
 use Rattle.types.proofs.Query.{cell-kind}
-use Rattle.relations.specs.Entry.{TwoTypes}
+use Rattle.relations.specs.TypeRows.{TwoTypes}
 use Rattle.relations.specs.Relations.{typesAreAssignable}
 use Rattle.node.specs.Bytes.{Read, wordAt}
 use Rattle.node.specs.Layout.{stopAt}

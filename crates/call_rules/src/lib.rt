@@ -16,7 +16,7 @@ ghost use Rattle.node.specs.Bytes.{headEnd};
 ghost use Rattle.contract.specs.Moments.{old, final};
 ghost use Rattle.types.specs.Ty.{argumentKind};
 ghost use Rattle.types.specs.Table.{IsCell, Table};
-ghost use Rattle.relations.specs.Entry.{OneType};
+ghost use Rattle.relations.specs.TypeRows.{OneType};
 ghost use Rattle.call_rules.specs.Lists.{RecordsListed, SlotsFilled, CountsRecords, CheckArguments, Call};
 
 // How many records stand from `from` to `end`.

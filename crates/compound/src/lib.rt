@@ -18,7 +18,7 @@ ghost use Rattle.contract.specs.Moments.{old};
 ghost use Rattle.shape.specs.Shape.{aCompound};
 ghost use Rattle.shape.specs.declared.Holds.the-variants.{CompoundFields};
 ghost use Rattle.node.specs.Fine.{FineNode, FineNodes};
-ghost use Rattle.relations.specs.Entry.{OneType};
+ghost use Rattle.relations.specs.TypeRows.{OneType};
 ghost use Rattle.walk.specs.Moments.{given, before, after};
 ghost use Rattle.convert.specs.Post.{Ready};
 ghost use Rattle.compound.specs.Post.{CarriedFieldNodes, CompoundCheckedNode};

@@ -10,7 +10,7 @@ use borrow.Author.Tests.{eq-eqb, ne-eqb}
 use Rattle.types.specs.Ty.{Ty, end, node, is, kindOf, firstOf, secondOf, sizeOf, cellCount, desugar, argumentKind}
 use Rattle.types.specs.Table.{unfolded, IsType}
 use Rattle.types.specs.Post.{TypePart}
-use Rattle.relations.specs.Entry.{OneType, TwoTypes}
+use Rattle.relations.specs.TypeRows.{OneType, TwoTypes}
 use Rattle.node.specs.Bytes.{Read, wordAt}
 use Rattle.node.specs.Layout.{stopAt}
 use Rattle.node.specs.Record.{locationAt}

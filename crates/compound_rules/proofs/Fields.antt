@@ -9,7 +9,7 @@ use lib.ListN.{length}
 use Rattle.types.specs.Ty.{Ty, unknown, firstOf, fieldNamed}
 use Rattle.types.specs.Table.{unfolded, Table, IsType}
 use Rattle.types.specs.Post.{FoundType}
-use Rattle.relations.specs.Entry.{OneType, TwoTypes}
+use Rattle.relations.specs.TypeRows.{OneType, TwoTypes}
 use Rattle.relations.specs.Relations.{typesAreAssignable}
 use Rattle.node.specs.Bytes.{Read, wordAt}
 use Rattle.node.specs.Layout.{stopAt}

@@ -19,7 +19,7 @@ ghost use Rattle.contract.specs.Moments.{old, final};
 ghost use Rattle.types.specs.Ty.{structKind, kindOf};
 ghost use Rattle.types.specs.Table.{IsType, unfolded};
 ghost use Rattle.node.specs.Bytes.{wordAt, headEnd, fieldEnd};
-ghost use Rattle.relations.specs.Entry.{OneType};
+ghost use Rattle.relations.specs.TypeRows.{OneType};
 ghost use Rattle.call_rules.specs.Lists.{RecordsListed, SlotsFilled};
 ghost use Rattle.compound_rules.specs.Elements.{CheckElements, ArrayCompound};
 ghost use Rattle.compound_rules.specs.Fields.{valuePlace, FilledFields, CheckField, CheckFields, countIf, Occurs};

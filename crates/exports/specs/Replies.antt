@@ -6,8 +6,9 @@ use mathlib.Core.List.{List}
 use Rattle.fallible.specs.Outcome.{Outcome, refused, accepted}
 use Rattle.meaning.specs.Promise.{Counts, Buffers, lengthsOf, answerOf, Checked}
 use Rattle.relations.specs.WordSize.{asWord}
-use Rattle.relations.specs.Entry.{Answers, Measures}
 use Rattle.relations.specs.declared.WordSize.{WordSize}
+use Rattle.queries.specs.Entry.{Answers, Measures}
+use Rattle.queries.specs.declared.CastSearch.{CastSearch}
 
 -- The number of the refusal, or 0
 abbrev pub refusalNumber : {A : Type 0} → Outcome A → ℕ
@@ -47,11 +48,24 @@ pub record ModuleTold (input : List ℕ) (before after : Buffers) (t : Reply) : 
 abbrev pub asNumber : Bool → ℕ
 asNumber b = cond b 1 0
 
--- The promise of assignable and castable holds of an outcome, which is told by its number and its value
+-- What the search of a cast finds, in numbers
+abbrev pub fitsNumber : CastSearch → ℕ
+fitsNumber found = asNumber (found .fits)
+
+abbrev pub pairsNumber : CastSearch → ℕ
+pairsNumber found = found .pairs
+
+-- The promise of assignable holds of an outcome, which is told by its number and its value
 pub record AnswerTold (w : List ℕ) (count m n : ℕ) (value : Bool) (number answer : ℕ) : Type 0 where
   pub outcome : Outcome Bool
   pub answers : Answers w count m n value outcome
   pub tells : (number ≡ refusalNumber outcome) × (answer ≡ valueOf asNumber outcome)
+
+-- The promise of castable holds of an outcome, which is told by its number, its answer and the pairs that were tried
+pub record CastTold (w : List ℕ) (count m n : ℕ) (value : CastSearch) (number answer pairs : ℕ) : Type 0 where
+  pub outcome : Outcome CastSearch
+  pub answers : Answers w count m n value outcome
+  pub tells : (number ≡ refusalNumber outcome) × (answer ≡ valueOf fitsNumber outcome) × (pairs ≡ valueOf pairsNumber outcome)
 
 -- The promise of words holds of an outcome, which is told by its number and its size as one word
 pub record SizeTold (w : List ℕ) (count n number size : ℕ) : Type 0 where

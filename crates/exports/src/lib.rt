@@ -1,7 +1,8 @@
 // The entries for C and Rust callers: numbers and slices alone, a slice as a pointer and then a length. Each returns 0
 // if the call is accepted, else the number of the refusal, and writes every value it answers through a `&mut`; a value
 // that the answer has not is 0. Nothing is asked of the caller but what `&` and `&mut` mean.
-use relations::Measured;
+use queries::CastAnswer;
+use queries::Measured;
 use relations::WordSize;
 use size_words::TOO_LARGE_WORD;
 use size_words::UNKNOWN_WORD;
@@ -9,12 +10,13 @@ use type_check::Answer;
 ghost use mathlib.Core.Path.{_≡_};
 ghost use Rattle.contract.specs.Moments.{old, final};
 ghost use Rattle.types.specs.Table.{unfolded};
-ghost use Rattle.relations.specs.Relations.{typesAreAssignable, isCastableTo};
+ghost use Rattle.relations.specs.Relations.{typesAreAssignable};
 ghost use Rattle.relations.specs.WordSize.{asWord};
-ghost use Rattle.relations.specs.Entry.{answeredOf, measuredOf};
+ghost use Rattle.queries.specs.CastSearch.{castSearch};
+ghost use Rattle.queries.specs.Entry.{answeredOf, searchedOf, measuredOf};
 ghost use Rattle.type_check.specs.Post.{buffersBefore, buffersAfter};
-ghost use Rattle.exports.specs.Replies.{ModuleTold, AnswerTold, SizeTold, reply, refusalNumber, valueOf};
-ghost use Rattle.exports.specs.Replies.{asNumber};
+ghost use Rattle.exports.specs.Replies.{ModuleTold, AnswerTold, CastTold, SizeTold, reply, refusalNumber, valueOf};
+ghost use Rattle.exports.specs.Replies.{asNumber, fitsNumber, pairsNumber};
 
 // Checks a module: `type_check_module` of the crate type_check.
 #[no_mangle]
@@ -61,15 +63,15 @@ fn yes_word(yes: bool) -> u32
 }
 
 // The number of an answer of yes or no, which is written as 1 or 0.
-fn put_answer(given: relations::Answer, answer: &mut u32) -> u32
+fn put_answer(given: queries::Answer, answer: &mut u32) -> u32
     ensures { λ r. ⌜ (r ≡ refusalNumber (answeredOf given)) × (final answer ≡ valueOf asNumber (answeredOf given)) ⌝ }
 {
     match given {
-        relations::Answer::Is(yes) => {
+        queries::Answer::Is(yes) => {
             *answer = yes_word(yes);
             0
         }
-        relations::Answer::Refused => {
+        queries::Answer::Refused => {
             *answer = 0;
             8
         }
@@ -88,10 +90,30 @@ pub extern "C" fn delta_null_assignable(
     ensures { λ r. ⌜ AnswerTold (old rows) count target source
         (typesAreAssignable (unfolded (old rows) target) (unfolded (old rows) source)) r (final answer) ⌝ }
 {
-    put_answer(relations::assignable(rows, count, target, source), answer)
+    put_answer(queries::assignable(rows, count, target, source), answer)
 }
 
-// Whether the type of row source may be cast to that of row target: 1 or 0.
+// The number of a cast's answer, which is written as 1 or 0 with the number of pairs that were tried.
+fn put_cast(given: CastAnswer, answer: &mut u32, pairs: &mut u64) -> u32
+    ensures { λ r. ⌜ (r ≡ refusalNumber (searchedOf given))
+        × (final answer ≡ valueOf fitsNumber (searchedOf given))
+        × (final pairs ≡ valueOf pairsNumber (searchedOf given)) ⌝ }
+{
+    match given {
+        CastAnswer::Searched(found) => {
+            *answer = yes_word(found.fits);
+            *pairs = found.pairs;
+            0
+        }
+        CastAnswer::Refused => {
+            *answer = 0;
+            *pairs = 0;
+            8
+        }
+    }
+}
+
+// Whether the type of row source may be cast to that of row target, 1 or 0, and how many pairs were tried.
 #[no_mangle]
 pub extern "C" fn delta_null_castable(
     rows: &[u32],
@@ -99,11 +121,13 @@ pub extern "C" fn delta_null_castable(
     source: u32,
     target: u32,
     answer: &mut u32,
+    pairs: &mut u64,
 ) -> u32
-    ensures { λ r. ⌜ AnswerTold (old rows) count source target
-        (isCastableTo (unfolded (old rows) source) (unfolded (old rows) target)) r (final answer) ⌝ }
+    ensures { λ r. ⌜ CastTold (old rows) count source target
+        (castSearch (unfolded (old rows) source) (unfolded (old rows) target)) r (final answer) (final pairs) ⌝ }
 {
-    put_answer(relations::castable(rows, count, source, target), answer)
+    let given = queries::castable(rows, count, source, target);
+    put_cast(given, answer, pairs)
 }
 
 // A size as one word: the words, 65,536 for too large, 65,537 for Unknown inside.
@@ -138,5 +162,5 @@ fn put_size(given: Measured, size: &mut u32) -> u32
 pub extern "C" fn delta_null_word_size(rows: &[u32], count: u32, n: u32, size: &mut u32) -> u32
     ensures { λ r. ⌜ SizeTold (old rows) count n r (final size) ⌝ }
 {
-    put_size(relations::words(rows, count, n), size)
+    put_size(queries::words(rows, count, n), size)
 }

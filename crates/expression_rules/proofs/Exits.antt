@@ -7,15 +7,15 @@ use mathlib.Core.Option.{Option}
 use native.Mathlib.Omega.{arith}
 use lib.Dec.{eqb}
 use lib.ListN.{length, take, drop}
-use borrow.Author.Tests.{eq-eqb, ne-eqb, eqb-true, eqb-false}
+use borrow.Author.Tests.{eq-eqb, ne-eqb}
 use Rattle.types.specs.Ty.{Ty, kindOf, firstOf, is, isIntegral, same, desugar, fieldNamed, boolKind, u16Kind, pointerKind, arrayKind}
 use Rattle.types.specs.Table.{unfolded}
 use Rattle.types.specs.Post.{TypePart, FoundType}
 use Rattle.types.specs.declared.Row.the-variants.{Pointer}
-use Rattle.types.proofs.Laws.{injective, same-refl, same-false}
 use Rattle.types.proofs.Fixed.{fixed-is, bool-row}
-use Rattle.relations.specs.Entry.{OneType, TwoTypes}
+use Rattle.relations.specs.TypeRows.{OneType, TwoTypes}
 use Rattle.relations.specs.Relations.{isIntegralKind, typesAreAssignable, isCastableTo}
+use Rattle.relations.proofs.CastLaws.{same-rows}
 use Rattle.literal.specs.Literal.{fromStrRadix, parsedValue}
 use Rattle.literal.specs.declared.Parsed.{Parsed}
 use Rattle.literal.specs.declared.Parsed.the-variants.{Value, Invalid}
@@ -46,14 +46,6 @@ module _ (w : List ℕ) (c kind ty k : ℕ) (one : OneType w c ty) (ek : k ≡ k
   part-none q = rw (ne-eqb (kindOf (unfolded w ty)) kind (λ z. q (ek ∙ z))) (unknown-shown w c (one .table))
 
 -- `computes`
-
--- Rows are equal where their types are
-pub same-rows : (w : List ℕ) (c i j : ℕ) → TwoTypes w c i j → eqb i j ≡ same (unfolded w i) (unfolded w j)
-same-rows w c i j two = go (eqb i j) refl
-  where
-    go : (b : Bool) → eqb i j ≡ b → eqb i j ≡ same (unfolded w i) (unfolded w j)
-    go true q = q ∙ sym (ap (λ (n : ℕ). same (unfolded w i) (unfolded w n)) (sym (eqb-true i j q)) ∙ same-refl (unfolded w i))
-    go false q = q ∙ sym (same-false (unfolded w i) (unfolded w j) (λ z. eqb-false i j q (injective w c (two .table) i j (two .first .high) (two .second .high) z)))
 
 integral-no-pointer : (k : ℕ) → isIntegralKind k ≡ true → eqb k 6 ≡ false
 integral-no-pointer k q = ne-eqb k 6 (λ z. true≢false (sym q ∙ ap (λ (n : ℕ). isIntegralKind n) z))

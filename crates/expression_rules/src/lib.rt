@@ -39,7 +39,7 @@ ghost use Rattle.literal.specs.Digits.{DigitTable};
 ghost use Rattle.row_index.specs.Index.{digitsIn, Indexed};
 ghost use Rattle.types.specs.Ty.{pointerKind, structKind};
 ghost use Rattle.types.specs.Table.{unfolded};
-ghost use Rattle.relations.specs.Entry.{OneType, TwoTypes};
+ghost use Rattle.relations.specs.TypeRows.{OneType, TwoTypes};
 ghost use Rattle.node.specs.Bytes.{wordAt, headEnd, fieldEnd, fieldsEnd};
 ghost use Rattle.node.specs.Layout.{stopAt};
 ghost use Rattle.meaning.specs.Expression.{partOf, computes as computing};

@@ -5,7 +5,7 @@ use mathlib.Core.Bool.{Bool, true, false}
 use mathlib.Core.List.{List, [], _++_}
 use native.Mathlib.Omega.{arith}
 use lib.ListN.{length}
-use Rattle.relations.specs.Entry.{OneType, TwoTypes}
+use Rattle.relations.specs.TypeRows.{OneType, TwoTypes}
 use Rattle.shape.specs.Shape.{dueIn, mayBeEither, anExpression, aCompound}
 use Rattle.shape.specs.declared.Holds.the-variants.{Nothing, InitialValue}
 use Rattle.node.specs.Bytes.{halfAt}

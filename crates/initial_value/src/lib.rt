@@ -11,7 +11,7 @@ use walk::State;
 ghost use Rattle.contract.specs.Moments.{old};
 ghost use Rattle.node.specs.Fine.{FineList};
 ghost use Rattle.shape.specs.declared.Holds.the-variants.{InitialValue};
-ghost use Rattle.relations.specs.Entry.{OneType};
+ghost use Rattle.relations.specs.TypeRows.{OneType};
 ghost use Rattle.walk.specs.Moments.{given, before, after};
 ghost use Rattle.convert.specs.Post.{Ready};
 ghost use Rattle.initial_value.specs.Post.{ValueChecked};

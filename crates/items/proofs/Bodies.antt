@@ -31,7 +31,7 @@ use Rattle.walk.proofs.Walks.{walked-none, walked-as, typing-void}
 use Rattle.convert.specs.Post.{Ready, errorFor}
 use Rattle.expression_rules.specs.Rules.{ReportedUnless}
 use Rattle.expression_rules.proofs.Laws.{walked-unless, spells-at}
-use Rattle.expression_rules.proofs.Exits.{same-rows}
+use Rattle.relations.proofs.CastLaws.{same-rows}
 use Rattle.expression.proofs.Visits.{visit-steps}
 use Rattle.compound.proofs.Compounds.{told-then}
 use Rattle.statement.specs.Post.{Inside, StatementCheckedAt}

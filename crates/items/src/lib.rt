@@ -39,7 +39,7 @@ ghost use Rattle.node.specs.Names.{nameCount};
 ghost use Rattle.node.specs.Layout.{kindAt};
 ghost use Rattle.node.specs.Fine.{FineNode, FineNodes};
 ghost use Rattle.node.specs.Record.{statementAt};
-ghost use Rattle.relations.specs.Entry.{OneType};
+ghost use Rattle.relations.specs.TypeRows.{OneType};
 ghost use Rattle.meaning.specs.Divergence.{doAllPathsDiverge};
 ghost use Rattle.meaning.specs.Promise.{workWidth};
 ghost use Rattle.convert.specs.Post.{Ready};

@@ -2,9 +2,9 @@
 -- neither names nor items by their definitions; what follows from that for a run is said here.
 use Prim.Native.Nat.{ℕ, _≤_, _<_}
 use mathlib.Core.Path.{_≡_}
-use mathlib.Core.List.{List, [], _++_}
-use lib.ListN.{length, drop, replicate}
-use Rattle.types.specs.Table.{fixedCount, fixedLength, fixedWords}
+use mathlib.Core.List.{List, []}
+use lib.ListN.{length, replicate}
+use Rattle.types.specs.Table.{fixedCount, fixedLength, withFixed}
 use Rattle.fallible.specs.Outcome.{Outcome, refused, accepted}
 use Rattle.node.specs.Bytes.{headSize}
 use Rattle.node.specs.Names.{namesOf, itemsOf}
@@ -17,7 +17,7 @@ sevenRows = record { rows = fixedCount; errors = 0 }
 -- The fixed rows stand before the other row words; nothing else is touched
 abbrev pub withFixedRows : Buffers → Buffers
 withFixedRows before =
-    record { output = before .output; rows = fixedWords ++ drop fixedLength (before .rows); errors = before .errors; work = before .work }
+    record { output = before .output; rows = withFixed (before .rows); errors = before .errors; work = before .work }
 
 -- Every row word and every error word is 0; nothing else is touched
 abbrev pub withZeros : Buffers → Buffers

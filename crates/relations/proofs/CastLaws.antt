@@ -1,15 +1,16 @@
--- Laws of castable types, for the turns of its two loops.
+-- Laws of castable types: the search over pairs of strips, turn by turn, and the test of a pair.
 use Prim.Native.Nat.{ℕ, _+_}
 use mathlib.Core.Path.{_≡_, refl, sym, ap, _∙_}
 use mathlib.Core.List.{List, [], _∷_, _++_, map}
-use mathlib.Core.Bool.{Bool, true, false, not, _&&_, _||_, or-assoc, or-false, and-false}
+use mathlib.Core.Bool.{Bool, true, false, cond, _&&_, _||_, or-assoc, or-false, or-true, and-false}
 use native.Mathlib.Omega.{arith}
-use borrow.Author.Tests.{eq-eqb, ne-eqb, eqb-true, eqb-false}
+use borrow.Author.Tests.{eqb-true, eqb-false}
 use lib.Dec.{eqb}
-use Rattle.types.specs.Ty.{Ty, end, node, is, kindOf, firstOf, same, desugar, stripTo, distinctKind}
+use Rattle.types.specs.Ty.{Ty, end, node, is, kindOf, firstOf, same, desugar, distinctKind}
 use Rattle.types.specs.Table.{Table, unfolded}
 use Rattle.types.specs.Post.{TypePart}
 use Rattle.relations.specs.Relations.{Pair, pair, strips, castPairs, castKinds, castFits, someFits, isCastableTo}
+use Rattle.relations.specs.TypeRows.{TwoTypes}
 use Rattle.types.proofs.Laws.{injective, same-refl, same-false}
 use Rattle.types.proofs.Query.{desugar-other}
 
@@ -18,16 +19,20 @@ unfolding someFits
 fits-append [] m = refl
 fits-append (p ∷ l) m = rw (fits-append l m) (sym (or-assoc (castFits p) (someFits l) (someFits m)))
 
--- A search over the strips of a type: the type itself, then, under a distinct alias, the strips of what it stands for
+-- The strips of a type: the type itself, then, under a distinct alias, the strips of what it stands for
+pub strips-list : (t : Ty) → strips t ≡ t ∷ cond (is distinctKind t) (strips (firstOf t)) []
+unfolding strips
+strips-list end = refl
+strips-list (node k a b s n) = refl
+
+-- A search over them
 module _ (f : List Ty → Bool) (p : Ty → Bool) (none-left : f [] ≡ false) (one-more : (t : Ty) (l : List Ty) → f (t ∷ l) ≡ (p t || f l)) where
-  strips-turn : (t : Ty) → f (strips t) ≡ (p t || (is distinctKind t && f (strips (firstOf t))))
-  unfolding strips
-  strips-turn end = one-more end [] ∙ rw none-left
-  strips-turn (node k a b s n) = go (eqb k distinctKind) refl
+  pub strips-turn : (t : Ty) → f (strips t) ≡ (p t || (is distinctKind t && f (strips (firstOf t))))
+  strips-turn t = ap f (strips-list t) ∙ one-more t _ ∙ ap (p t ||_) (go (is distinctKind t))
     where
-      go : (c : Bool) → eqb k distinctKind ≡ c → f (strips (node k a b s n)) ≡ (p (node k a b s n) || (eqb k distinctKind && f (strips a)))
-      go true e = rw e (one-more _ _)
-      go false e = rw e (one-more _ _ ∙ rw none-left)
+      go : (c : Bool) → f (cond c (strips (firstOf t)) []) ≡ (c && f (strips (firstOf t)))
+      go true = refl
+      go false = none-left
 
 -- The search over the strips of the target, and the search over those of the source
 abbrev pub targetFits : (source target : Ty) → Bool
@@ -42,62 +47,36 @@ unfolding someFits castPairs isCastableTo
 source-turn target =
     strips-turn (λ l. someFits (castPairs l (strips target))) (λ t. targetFits t target) refl (λ t l. fits-append (map (pair t) (strips target)) (castPairs l (strips target)))
 
--- A turn of either search at the type t, where `found` is the test of t itself
-module _ (searched test : Ty → Bool) (turn : (t : Ty) → searched t ≡ (test t || (is distinctKind t && searched (firstOf t))))
-    (t : Ty) (answer : Bool) (means : searched t ≡ answer) (found : Bool) (tested : found ≡ test t) where
-  strip-fits : found ≡ true → true ≡ answer
-  strip-fits hit = sym (sym means ∙ turn t ∙ rw (← tested, hit))
+-- A distinct alias fits no type by its kind, on either side: only what desugars to it
+source-kinds : (k : ℕ) → castKinds distinctKind k ≡ false
+source-kinds k = simp or-false
 
-  module _ (miss : found ≡ false) (k : ℕ) (k-is : k ≡ kindOf t) where
-    strip-ends : (k ≡ distinctKind → ⊥) → false ≡ answer
-    strip-ends other = sym (sym means ∙ turn t ∙ rw (← tested, miss, ← k-is, ne-eqb k distinctKind other))
+target-kinds : (j : ℕ) → castKinds j distinctKind ≡ false
+target-kinds j = simp (and-false, or-false)
 
-    strip-goes-on : k ≡ distinctKind → (u : Ty) → u ≡ firstOf t → searched u ≡ answer
-    strip-goes-on distinct u e = sym (sym means ∙ turn t ∙ rw (← tested, miss, ← k-is, eq-eqb k distinctKind distinct, ← e))
+pub fits-distinct-source : (s t : Ty) → kindOf s ≡ distinctKind → castFits (pair s t) ≡ same s (desugar t)
+fits-distinct-source s t e =
+    let kinds : castKinds (kindOf s) (kindOf t) ≡ false = ap (λ (k : ℕ). castKinds k (kindOf t)) e ∙ source-kinds (kindOf t) in
+    let plain : desugar s ≡ s = desugar-other s (λ h. omega arith) in
+    λ i. kinds i || same (plain i) (desugar t)
 
--- Of the strips of the target, one that is a distinct alias fits only if the source desugars to it
-distinct-kinds : (j : ℕ) → castKinds j distinctKind ≡ false
-distinct-kinds j = simp (and-false, or-false)
+pub fits-distinct-target : (s t : Ty) → kindOf t ≡ distinctKind → castFits (pair s t) ≡ same (desugar s) t
+fits-distinct-target s t e =
+    let kinds : castKinds (kindOf s) (kindOf t) ≡ false = ap (castKinds (kindOf s)) e ∙ target-kinds (kindOf s) in
+    let plain : desugar t ≡ t = desugar-other t (λ h. omega arith) in
+    λ i. kinds i || same (desugar s) (plain i)
 
-distinct-fits : (source : Ty) (k : ℕ) (a b : Ty) (s n : ℕ) → k ≡ distinctKind → castFits (pair source (node k a b s n)) ≡ same (desugar source) (node k a b s n)
-distinct-fits source k a b s n e =
-    let kinds : castKinds (kindOf source) k ≡ false = ap (castKinds (kindOf source)) e ∙ distinct-kinds (kindOf source) in
-    let plain : desugar (node k a b s n) ≡ node k a b s n = desugar-other (node k a b s n) (λ h. omega arith) in
-    λ i. kinds i || same (desugar source) (plain i)
+-- A type fits with itself
+pub fits-itself : (t : Ty) → castFits (pair t t) ≡ true
+fits-itself t = rw (same-refl (desugar t)) (or-true (castKinds (kindOf t) (kindOf t)))
 
-target-strip : (source t : Ty) → targetFits source t ≡ castFits (pair source (stripTo (desugar source) t))
-unfolding someFits strips stripTo
-target-strip source end = or-false (castFits (pair source end))
-target-strip source (node k a b s n) = target-turn source (node k a b s n) ∙ go (target-strip source a) (eqb k distinctKind) refl (same (desugar source) (node k a b s n)) refl
+-- Rows are equal where their types are
+pub same-rows : (w : List ℕ) (c i j : ℕ) → TwoTypes w c i j → eqb i j ≡ same (unfolded w i) (unfolded w j)
+same-rows w c i j two = go (eqb i j) refl
   where
-    go : targetFits source a ≡ castFits (pair source (stripTo (desugar source) a)) → (d : Bool) → eqb k distinctKind ≡ d → (c : Bool) → same (desugar source) (node k a b s n) ≡ c
-        → (castFits (pair source (node k a b s n)) || (eqb k distinctKind && targetFits source a)) ≡ castFits (pair source (stripTo (desugar source) (node k a b s n)))
-    go inner false e c q = rw e (or-false (castFits (pair source (node k a b s n))))
-    go inner true e true q =
-        let fits = distinct-fits source k a b s n (eqb-true k distinctKind e) ∙ q in
-        rw (e, q) ((λ i. fits i || targetFits source a) ∙ sym fits)
-    go inner true e false q =
-        let not-fits = distinct-fits source k a b s n (eqb-true k distinctKind e) ∙ q in
-        rw (e, q) ((λ i. not-fits i || targetFits source a) ∙ inner)
-
-pub target-told : (w : List ℕ) (count source target from to : ℕ) → TypePart w count (source + 1) (desugar (unfolded w source)) from
-    → TypePart w count (target + 1) (stripTo (unfolded w from) (unfolded w target)) to → (r : Bool) → r ≡ castFits (pair (unfolded w source) (unfolded w to))
-    → r ≡ targetFits (unfolded w source) (unfolded w target)
-target-told w count source target from to f t r e =
-    e ∙ ap (λ (u : Ty). castFits (pair (unfolded w source) u)) (t .type ∙ ap (λ (u : Ty). stripTo u (unfolded w target)) (f .type)) ∙ sym (target-strip (unfolded w source) (unfolded w target))
-
-module _ (w : List ℕ) (count source target : ℕ) (answer found : Bool) where
-  module _ (means : isCastableTo (unfolded w source) (unfolded w target) ≡ answer) (tested : found ≡ targetFits (unfolded w source) (unfolded w target)) where
-    pub source-fits : found ≡ true → true ≡ answer
-    source-fits = strip-fits (λ t. isCastableTo t (unfolded w target)) (λ t. targetFits t (unfolded w target)) (source-turn (unfolded w target)) (unfolded w source) answer means found tested
-
-    module _ (miss : found ≡ false) (k : ℕ) (k-is : k ≡ kindOf (unfolded w source)) where
-      pub source-ends : (k ≡ distinctKind → ⊥) → false ≡ answer
-      source-ends = strip-ends (λ t. isCastableTo t (unfolded w target)) (λ t. targetFits t (unfolded w target)) (source-turn (unfolded w target)) (unfolded w source) answer means found tested miss k k-is
-
-      pub source-goes-on : k ≡ distinctKind → (next : ℕ) → TypePart w count source (firstOf (unfolded w source)) next → isCastableTo (unfolded w next) (unfolded w target) ≡ answer
-      source-goes-on distinct next part =
-          strip-goes-on (λ t. isCastableTo t (unfolded w target)) (λ t. targetFits t (unfolded w target)) (source-turn (unfolded w target)) (unfolded w source) answer means found tested miss k k-is distinct (unfolded w next) (part .type)
+    go : (b : Bool) → eqb i j ≡ b → eqb i j ≡ same (unfolded w i) (unfolded w j)
+    go true q = q ∙ sym (ap (λ (n : ℕ). same (unfolded w i) (unfolded w n)) (sym (eqb-true i j q)) ∙ same-refl (unfolded w i))
+    go false q = q ∙ sym (same-false (unfolded w i) (unfolded w j) (λ z. eqb-false i j q (injective w c (two .table) i j (two .first .high) (two .second .high) z)))
 
 -- A pair that does not fit by its kinds, by the rows that its two types desugar to
 module _ (w : List ℕ) (count : ℕ) (table : Table w count) (source target j k : ℕ) (j-is : j ≡ kindOf (unfolded w source)) (k-is : k ≡ kindOf (unfolded w target)) (b : Bool) (tested : b ≡ castKinds j k) where
@@ -106,8 +85,5 @@ module _ (w : List ℕ) (count : ℕ) (table : Table w count) (source target j k
 
   pub fits-desugared : b ≡ false → (from to : ℕ) → TypePart w count (source + 1) (desugar (unfolded w source)) from → TypePart w count (target + 1) (desugar (unfolded w target)) to
       → eqb from to ≡ castFits (pair (unfolded w source) (unfolded w target))
-  fits-desugared miss from to s t = rw (← j-is, ← k-is, ← tested, miss, ← s .type, ← t .type) (go (eqb from to) refl)
-    where
-      go : (c : Bool) → eqb from to ≡ c → eqb from to ≡ same (unfolded w from) (unfolded w to)
-      go true e = e ∙ sym (same-refl (unfolded w from)) ∙ ap (λ (z : ℕ). same (unfolded w from) (unfolded w z)) (eqb-true from to e)
-      go false e = e ∙ sym (same-false _ _ (λ q. eqb-false from to e (injective w count table from to (s .is .high) (t .is .high) q)))
+  fits-desugared miss from to s t =
+      rw (← j-is, ← k-is, ← tested, miss, ← s .type, ← t .type) (same-rows w count from to (record { table = table; first = s .is; second = t .is }))

@@ -10,7 +10,7 @@ use Rattle.types.specs.WordSize.{toIrType, irWordSize, sizeWord}
 use Rattle.types.proofs.Fixed.{AllBelow, each-below, fixed-table}
 use Rattle.types.proofs.Rows.{Rows, table-rows, rows-add, points-to-last}
 use Rattle.relations.specs.Relations.{typesAreAssignable, strips, castPairs, someFits, isCastableTo}
-use Rattle.relations.specs.Entry.{TwoTypes}
+use Rattle.relations.specs.TypeRows.{TwoTypes}
 use Rattle.relations.specs.Decay.{decayRows, decayCount, Decay}
 
 type-row : (m n : ℕ) → 1 ≤ n → n ≤ m → rowAt decayRows n .kind ≤ distinctKind → IsType decayRows m n

@@ -15,7 +15,7 @@ use Rattle.types.proofs.Laws.{both, either, same-true, same-refl}
 use Rattle.types.proofs.Query.{desugar-other}
 use Rattle.relations.specs.Relations.{pair, typesAreAssignable, isIntegralKind, castKinds, castFits, isCastableTo}
 use Rattle.relations.specs.WordSize.{largest, answered, wordSizeOf, asWord}
-use Rattle.relations.specs.Entry.{TwoTypes}
+use Rattle.relations.specs.TypeRows.{TwoTypes}
 use Rattle.relations.specs.Footprint.{isMissing, UnknownPrevents, SameBackend, exactWords, Plain, Footprint}
 use Rattle.relations.specs.Decay.{decayRows, decayCount, BothPlain}
 use Rattle.relations.specs.declared.WordSize.{WordSize}

@@ -14,7 +14,7 @@ use Rattle.types.specs.WordSize.{IrType, toIrType, irWordSize, typeWord, sizeWo
 use Rattle.types.proofs.Query.{type-kind}
 use Rattle.types.proofs.Sizes.{size-counted}
 use Rattle.relations.specs.WordSize.{largest, answered, wordSizeOf, asWord}
-use Rattle.relations.specs.Entry.{OneType}
+use Rattle.relations.specs.TypeRows.{OneType}
 use Rattle.relations.specs.declared.WordSize.{WordSize}
 use Rattle.relations.specs.declared.WordSize.the-variants.{Words, TooLarge, Unknown}
 

@@ -6,7 +6,7 @@ use mathlib.Core.List.{List, [], _∷_, _++_}
 use Rattle.types.specs.Ty.{Ty, u16, pointer, array, alias, pointerKind, arrayKind, aliasKind}
 use Rattle.types.specs.Table.{unfolded, fixedWords}
 use Rattle.relations.specs.Relations.{typesAreAssignable, isCastableTo}
-use Rattle.relations.specs.Entry.{TwoTypes}
+use Rattle.relations.specs.TypeRows.{TwoTypes}
 use Rattle.relations.specs.Footprint.{Plain}
 
 -- Behind the seven fixed rows: 8, a transparent alias of row 6, the pointer to u16; 9, an array of four u16; 10, a pointer to it; 11, a

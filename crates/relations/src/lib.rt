@@ -1,34 +1,27 @@
 // Relations between the types of rows: assignable, castable, and the words of a type.
 // A row is known only by the questions of the crate `types`.
 ghost use mathlib.Core.Path.{_≡_};
-ghost use mathlib.Core.List.{map};
+ghost use Prim.Native.Nat.{_+_};
 ghost use Rattle.contract.specs.Moments.{old};
-ghost use Rattle.types.specs.Table.{Decides, unfolded};
-ghost use Rattle.relations.specs.Relations.{typesAreAssignable, strips, pair, someFits, isIntegralKind};
+ghost use Rattle.types.specs.Table.{unfolded};
+ghost use Rattle.types.specs.Post.{TypePart};
+ghost use Rattle.relations.specs.Relations.{typesAreAssignable, pair, isIntegralKind};
 ghost use Rattle.relations.specs.Relations.{castKinds, castFits, isCastableTo};
+ghost use Rattle.relations.specs.Strips.{lastStrip, isStripOf};
 ghost use Rattle.relations.specs.WordSize.{wordSizeOf};
-ghost use Rattle.relations.specs.Entry.{OneType, TwoTypes, Answers, Measures, answeredOf, measuredOf};
+ghost use Rattle.relations.specs.TypeRows.{OneType, TwoTypes};
 
 // The largest number of words that is answered.
 const LARGEST: u32 = 65535;
+
+// A number that no row has.
+const NO_ROW: u32 = 0;
 
 // How many words a type has.
 pub enum WordSize {
     Words(u32),
     TooLarge,
     Unknown,
-}
-
-// What `assignable` and `castable` answer.
-pub enum Answer {
-    Is(bool),
-    Refused,
-}
-
-// What `words` answers.
-pub enum Measured {
-    Size(WordSize),
-    Refused,
 }
 
 // Whether a value of the type source may be assigned to a place of the type target.
@@ -92,7 +85,7 @@ fn cast_kinds(source: u32, target: u32) -> bool
 }
 
 // Whether a pair fits as it stands.
-fn cast_fits(rows: &[u32], count: u32, source: u32, target: u32) -> bool
+pub fn cast_fits(rows: &[u32], count: u32, source: u32, target: u32) -> bool
     requires { ⌜ TwoTypes (now rows) count source target ⌝ }
     ensures { λ r. ⌜ r ≡ castFits (pair (unfolded (old rows) source) (unfolded (old rows) target)) ⌝ }
 {
@@ -107,36 +100,45 @@ fn cast_fits(rows: &[u32], count: u32, source: u32, target: u32) -> bool
     from == to
 }
 
-// Whether source, as it stands, fits with some strip of target. A strip that is a distinct alias fits only if source
-// desugars to it.
-fn target_strip_fits(rows: &[u32], count: u32, source: u32, target: u32) -> bool
-    requires { ⌜ TwoTypes (now rows) count source target ⌝ }
-    ensures { λ r. ⌜ r ≡ someFits (map (pair (unfolded (old rows) source)) (strips (unfolded (old rows) target))) ⌝ }
+// The last strip of a type: no distinct alias is left at its top.
+fn last_strip(rows: &[u32], count: u32, n: u32) -> u32
+    requires { ⌜ OneType (now rows) count n ⌝ }
+    ensures { λ r. ⌜ TypePart (old rows) count (n + 1) (lastStrip (unfolded (old rows) n)) r ⌝ }
 {
-    let from = types::desugar(rows, count, source);
-    let to = types::strip_to(rows, count, target, from);
-    cast_fits(rows, count, source, to)
+    types::strip_to(rows, count, n, NO_ROW)
 }
 
-// Whether a value of the type source may be cast to the type target.
+// Whether what n desugars to is a distinct alias among the strips of top.
+fn is_strip_of(rows: &[u32], count: u32, n: u32, top: u32) -> bool
+    requires { ⌜ TwoTypes (now rows) count n top ⌝ }
+    ensures { λ r. ⌜ r ≡ isStripOf (unfolded (old rows) n) (unfolded (old rows) top) ⌝ }
+{
+    let wanted = types::desugar(rows, count, n);
+    if types::kind(rows, count, wanted) != types::DISTINCT_ALIAS {
+        return false;
+    }
+    types::strip_to(rows, count, top, wanted) == wanted
+}
+
+// Whether a value of the type source may be cast to the type target: some pair of their strips fits. Where two strips
+// that are distinct aliases are equal, so are the last ones: a pair without a last strip need not be tried.
 pub fn is_castable_to(rows: &[u32], count: u32, source: u32, target: u32) -> bool
     requires { ⌜ TwoTypes (now rows) count source target ⌝ }
     ensures { λ r. ⌜ r ≡ isCastableTo (unfolded (old rows) source) (unfolded (old rows) target) ⌝ }
 {
-    let mut from = source;
-    loop {
-        if target_strip_fits(rows, count, from, target) {
-            return true;
-        }
-        if types::kind(rows, count, from) != types::DISTINCT_ALIAS {
-            return false;
-        }
-        from = types::part(rows, count, from);
+    let from = last_strip(rows, count, source);
+    let to = last_strip(rows, count, target);
+    if cast_fits(rows, count, from, to) {
+        return true;
     }
+    if is_strip_of(rows, count, from, target) {
+        return true;
+    }
+    is_strip_of(rows, count, to, source)
 }
 
 // How many words the type of row n has.
-fn word_size(rows: &[u32], count: u32, n: u32) -> WordSize
+pub fn word_size(rows: &[u32], count: u32, n: u32) -> WordSize
     requires { ⌜ OneType (now rows) count n ⌝ }
     ensures { λ r. ⌜ r ≡ wordSizeOf (unfolded (old rows) n) ⌝ }
 {
@@ -148,56 +150,4 @@ fn word_size(rows: &[u32], count: u32, n: u32) -> WordSize
         return WordSize::TooLarge;
     }
     WordSize::Unknown
-}
-
-// Whether the rows obey the rules, and n is a type row.
-fn one_type(rows: &[u32], count: u32, n: u32) -> bool
-    ensures { λ r. ⌜ Decides (OneType (old rows) count n) r ⌝ }
-{
-    if !validate_rows::is_table(rows, count) {
-        return false;
-    }
-    validate_rows::is_type(rows, count, n)
-}
-
-// Whether the rows obey the rules, and both m and n are type rows.
-fn two_types(rows: &[u32], count: u32, m: u32, n: u32) -> bool
-    ensures { λ r. ⌜ Decides (TwoTypes (old rows) count m n) r ⌝ }
-{
-    if !one_type(rows, count, m) {
-        return false;
-    }
-    validate_rows::is_type(rows, count, n)
-}
-
-// Whether the type of row source may be assigned to that of row target.
-pub fn assignable(rows: &[u32], count: u32, target: u32, source: u32) -> Answer
-    ensures { λ r. ⌜ Answers (old rows) count target source
-        (typesAreAssignable (unfolded (old rows) target) (unfolded (old rows) source)) (answeredOf r) ⌝ }
-{
-    if !two_types(rows, count, target, source) {
-        return Answer::Refused;
-    }
-    Answer::Is(types_are_assignable(rows, count, target, source))
-}
-
-// Whether the type of row source may be cast to that of row target.
-pub fn castable(rows: &[u32], count: u32, source: u32, target: u32) -> Answer
-    ensures { λ r. ⌜ Answers (old rows) count source target
-        (isCastableTo (unfolded (old rows) source) (unfolded (old rows) target)) (answeredOf r) ⌝ }
-{
-    if !two_types(rows, count, source, target) {
-        return Answer::Refused;
-    }
-    Answer::Is(is_castable_to(rows, count, source, target))
-}
-
-// How many words the type of row n has.
-pub fn words(rows: &[u32], count: u32, n: u32) -> Measured
-    ensures { λ r. ⌜ Measures (old rows) count n (measuredOf r) ⌝ }
-{
-    if !one_type(rows, count, n) {
-        return Measured::Refused;
-    }
-    Measured::Size(word_size(rows, count, n))
 }

@@ -38,7 +38,7 @@ ghost use Rattle.shape.specs.declared.Holds.the-variants.{Statements};
 ghost use Rattle.node.specs.Bytes.{wordAt, headEnd, fieldEnd};
 ghost use Rattle.node.specs.Layout.{kindAt};
 ghost use Rattle.node.specs.Fine.{FineRecord, FineNode, FineNodes, nodeOf};
-ghost use Rattle.relations.specs.Entry.{OneType};
+ghost use Rattle.relations.specs.TypeRows.{OneType};
 ghost use Rattle.walk.specs.Words.{wordPlace};
 ghost use Rattle.walk.specs.Moments.{given, before, after};
 ghost use Rattle.convert.specs.Post.{Ready};

@@ -199,7 +199,7 @@ module _ (w : List ℕ) (count n : ℕ) (t : Table w count) (at : ℕ) where
             ⊎-elim (λ (b : kindOf (unfolded w at) ≤ 10). inl (omega (arith, kind-there))) (λ (q : kindOf (unfolded w at) ≡ 11). inr q) (le-suc-iff .0 h)
 
 -- The type that is wanted, one that is no distinct alias, and another distinct alias
-strip-to-here : (wanted t : Ty) → wanted ≡ t → stripTo wanted t ≡ t
+pub strip-to-here : (wanted t : Ty) → wanted ≡ t → stripTo wanted t ≡ t
 unfolding stripTo
 strip-to-here wanted end e = refl
 strip-to-here wanted (node k a b s n) e =

@@ -1,10 +1,10 @@
 -- The table of type rows (document 01, "Type rows"): words in a lent slice, rows numbered from 1.
 use Prim.Native.Nat.{ℕ, zero, suc, _+_, _-_, _*_, _^_, _≤_, _<_}
 use mathlib.Core.Path.{_≡_}
-use mathlib.Core.List.{List, [], _∷_}
+use mathlib.Core.List.{List, [], _∷_, _++_}
 use mathlib.Core.Bool.{Bool, true, false, cond, _||_}
 use mathlib.Core.Logic.{_⊎_}
-use lib.ListN.{length, getD}
+use lib.ListN.{length, getD, drop}
 use lib.Dec.{eqb, ltb}
 use Rattle.types.specs.Ty.{Ty, end, node, same, unknownKind, voidKind, boolKind, u16Kind, i16Kind, pointerKind}
 use Rattle.types.specs.Ty.{arrayKind, structKind, functionKind, aliasKind, distinctKind, fieldKind, argumentKind}
@@ -100,6 +100,10 @@ fixedWords =
     ∷ pointerKind ∷ 4 ∷ 0 ∷ 0 ∷ 1
     ∷ distinctKind ∷ 6 ∷ 0 ∷ stringName ∷ 1
     ∷ []
+
+-- w with them at its front
+abbrev pub withFixed : List ℕ → List ℕ
+withFixed w = fixedWords ++ drop fixedLength w
 
 -- w begins with them
 abbrev pub FixedRows : List ℕ → Type 0

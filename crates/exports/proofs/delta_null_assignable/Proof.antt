@@ -1,5 +1,5 @@
 -- `delta_null_assignable`: the promise of `assignable`, and its answer as `put_answer` tells it.
-use Rattle.relations.specs.Entry.{answeredOf}
+use Rattle.queries.specs.Entry.{answeredOf}
 use borrow.Author.Needs.{needs}
 use Rattle.exports.proofs.delta_null_assignable.Statement.{statement}
 use Rattle.exports.proofs.delta_null_assignable.Tie as tie

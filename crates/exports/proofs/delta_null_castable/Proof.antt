@@ -1,5 +1,5 @@
--- `delta_null_castable`: the promise of `castable`, and its answer as `put_answer` tells it.
-use Rattle.relations.specs.Entry.{answeredOf}
+-- `delta_null_castable`: the promise of `castable`, and its answer as `put_cast` tells it.
+use Rattle.queries.specs.Entry.{searchedOf}
 use borrow.Author.Needs.{needs}
 use Rattle.exports.proofs.delta_null_castable.Statement.{statement}
 use Rattle.exports.proofs.delta_null_castable.Tie as tie
@@ -7,11 +7,11 @@ use Rattle.exports.proofs.delta_null_castable.Tie as tie
 castable-requires : tie.Need-castable-requires
 castable-requires c κs = search needs
 
-put-answer-requires : tie.Need-put-answer-requires
-put-answer-requires c κs = search needs
+put-cast-requires : tie.Need-put-cast-requires
+put-cast-requires c κs = search needs
 
 returns : tie.Need-returns
-returns c = record { outcome = answeredOf (c .before .before .castable .result); answers = c .before .before .castable .ensures; tells = c .put-answer .ensures }
+returns c = record { outcome = searchedOf (c .before .before .before .castable .result); answers = c .before .before .before .castable .ensures; tells = c .put-cast .ensures }
 
 pub delta-null-castable-spec : {M : Type 1} → statement M
-delta-null-castable-spec = tie.close (tie.spec castable-requires put-answer-requires returns)
+delta-null-castable-spec = tie.close (tie.spec castable-requires put-cast-requires returns)

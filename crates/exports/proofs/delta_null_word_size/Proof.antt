@@ -1,5 +1,5 @@
 -- `delta_null_word_size`: the promise of `words`, and its answer as `put_size` tells it.
-use Rattle.relations.specs.Entry.{measuredOf}
+use Rattle.queries.specs.Entry.{measuredOf}
 use borrow.Author.Needs.{needs}
 use Rattle.exports.proofs.delta_null_word_size.Statement.{statement}
 use Rattle.exports.proofs.delta_null_word_size.Tie as tie

@@ -1,52 +1,42 @@
-use Rattle.relations.proofs.CastLaws.{source-fits, source-ends, source-goes-on}
-use mathlib.Core.Path.{_≡_, refl}
+-- `relations::is_castable_to` meets its contract.
 use borrow.Author.Needs.{needs}
-use Rattle.types.specs.Table.{IsType, unfolded}
-use Rattle.relations.specs.Relations.{isCastableTo}
+use Rattle.relations.proofs.StripLaws.{last-fit, target-fits, source-decides}
 use Rattle.relations.proofs.is_castable_to.Statement.{statement}
 use Rattle.relations.proofs.is_castable_to.Tie as tie
 
-abbrev Inv-loop : tie.InvT-loop
-Inv-loop rows count source target from₀ from = IsType rows count from × (isCastableTo (unfolded rows from) (unfolded rows target) ≡ isCastableTo (unfolded rows source) (unfolded rows target))
+last-strip-requires : tie.Need-last-strip-requires
+last-strip-requires c κs = search needs
 
-abbrev μ-loop : tie.MeasureT-loop
-μ-loop rows count source target from₀ from = from
+last-strip-requires-2 : tie.Need-last-strip-requires-2
+last-strip-requires-2 c κs = search needs
 
-loop-holds : tie.Need-loop-holds Inv-loop μ-loop
-loop-holds c = (c .before .pre .first, refl)
+cast-fits-requires : tie.Need-cast-fits-requires
+cast-fits-requires c κs = search needs
 
-target-strip-fits-requires : tie.Need-target-strip-fits-requires Inv-loop μ-loop
-target-strip-fits-requires c κs = search needs
+returns : tie.Need-returns
+returns c = search last-fit
 
-returns : tie.Need-returns Inv-loop μ-loop
-returns c = search source-fits
+is-strip-of-requires : tie.Need-is-strip-of-requires
+is-strip-of-requires c κs = search needs
 
-kind-requires : tie.Need-kind-requires Inv-loop μ-loop
-kind-requires c κs = search needs
+returns-2 : tie.Need-returns-2
+returns-2 c = search target-fits
 
-returns-2 : tie.Need-returns-2 Inv-loop μ-loop
-returns-2 c = search source-ends
+is-strip-of-requires-2 : tie.Need-is-strip-of-requires-2
+is-strip-of-requires-2 c κs = search needs
 
-part-requires : tie.Need-part-requires Inv-loop μ-loop
-part-requires c κs = search needs
-
-loop-less : tie.Need-loop-less Inv-loop μ-loop
-loop-less c = search needs
-
-loop-again : tie.Need-loop-again Inv-loop μ-loop
-loop-again c = (c .part .ensures .is, search source-goes-on)
+returns-3 : tie.Need-returns-3
+returns-3 c = search source-decides
 
 pub is-castable-to-spec : {M : Type 1} → statement M
 is-castable-to-spec =
     tie.close
     (tie.spec
-    Inv-loop
-    μ-loop
-    loop-holds
-    target-strip-fits-requires
+    last-strip-requires
+    last-strip-requires-2
+    cast-fits-requires
     returns
-    kind-requires
+    is-strip-of-requires
     returns-2
-    part-requires
-    loop-less
-    loop-again)
+    is-strip-of-requires-2
+    returns-3)

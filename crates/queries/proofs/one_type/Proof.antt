@@ -1,8 +1,9 @@
+-- `queries::one_type` meets its contract.
 use Rattle.rows.proofs.Decide.{fails, likewise}
 use borrow.Author.Tests.{not-true, not-false}
 use borrow.Author.Needs.{needs}
-use Rattle.relations.proofs.one_type.Statement.{statement}
-use Rattle.relations.proofs.one_type.Tie as tie
+use Rattle.queries.proofs.one_type.Statement.{statement}
+use Rattle.queries.proofs.one_type.Tie as tie
 
 is-table-requires : tie.Need-is-table-requires
 is-table-requires c κs = search needs

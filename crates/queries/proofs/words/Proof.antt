@@ -1,9 +1,9 @@
--- `relations::words` meets its contract.
+-- `queries::words` meets its contract.
 use mathlib.Core.Path.{refl}
 use borrow.Author.Tests.{not-true, not-false}
 use borrow.Author.Needs.{needs}
-use Rattle.relations.proofs.words.Statement.{statement}
-use Rattle.relations.proofs.words.Tie as tie
+use Rattle.queries.proofs.words.Statement.{statement}
+use Rattle.queries.proofs.words.Tie as tie
 
 one-type-requires : tie.Need-one-type-requires
 one-type-requires c κs = search needs

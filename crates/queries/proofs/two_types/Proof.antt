@@ -1,8 +1,9 @@
+-- `queries::two_types` meets its contract.
 use Rattle.rows.proofs.Decide.{fails, likewise}
 use borrow.Author.Tests.{not-true, not-false}
 use borrow.Author.Needs.{needs}
-use Rattle.relations.proofs.two_types.Statement.{statement}
-use Rattle.relations.proofs.two_types.Tie as tie
+use Rattle.queries.proofs.two_types.Statement.{statement}
+use Rattle.queries.proofs.two_types.Tie as tie
 
 one-type-requires : tie.Need-one-type-requires
 one-type-requires c κs = search needs

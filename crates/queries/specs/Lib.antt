@@ -1,0 +1,3 @@
+pub mod CastSearch
+pub mod Entry
+pub mod Dearest
