@@ -1,6 +1,7 @@
 /* Measures the questions about rows, each of which validates the whole table first:  questions
  * A line for each class of tables: its name, then for each number of rows the microseconds of one call of delta_null_assignable and of one
- * of delta_null_word_size, the fastest of some rounds. */
+ * of delta_null_word_size, the fastest of some rounds. Last delta_null_castable from distinct aliases over bool to as many over u16, where
+ * no pair fits: for each number of aliases the microseconds of one call, and the nanoseconds of it for each of the pairs. */
 #include <stdio.h>
 #include <stdlib.h>
 #include <time.h>
@@ -8,12 +9,14 @@
 #include "delta_null_type_check.h" /* of the library that is measured */
 
 enum { FIXED = 7, MOST_ROWS = 24000, ROUNDS = 40, LEAST_ROUNDS = 3 };
-enum { UNKNOWN = 1, VOID = 2, U16 = 4, POINTER = 6, ARRAY = 7, STRUCT = 8, ALIAS = 10, DISTINCT = 11, FIELD = 12, STRING_NAME = 65535 };
+enum { UNKNOWN = 1, VOID = 2, BOOL = 3, U16 = 4, POINTER = 6, ARRAY = 7, STRUCT = 8, ALIAS = 10, DISTINCT = 11, FIELD = 12 };
+enum { STRING_NAME = 65535 };
 
 /* As long as these nanoseconds, more rounds than the least are made. */
 static const double LONG = 2e8;
 
 static const uint32_t counts[] = {375, 750, 1500, 3000, 6000, 12000, 24000};
+static const uint32_t lengths[] = {125, 250, 500};
 static uint32_t rows[MOST_ROWS * DELTA_NULL_ROW_WORDS], count;
 
 #if DELTA_NULL_ROW_WORDS == 4
@@ -86,22 +89,49 @@ static const struct {
     {"fields of one name", fields_of_one_name}, {"rows of one bucket", one_bucket},
 };
 
+/* So many distinct aliases over a type; the last of them. */
+static uint32_t chain(uint32_t of, uint32_t length) {
+    while (length--) of = add(DISTINCT, of, 0, 0);
+    return of;
+}
+
+static uint32_t ask_assignable(uint32_t *answer) {
+    return delta_null_assignable(rows, count * DELTA_NULL_ROW_WORDS, count, U16, U16, answer);
+}
+
+static uint32_t ask_size(uint32_t *answer) { return word_size(rows, count * DELTA_NULL_ROW_WORDS, count, U16, answer); }
+
+/* A library from before casts were counted has no last parameter, and ignores it. */
+typedef uint32_t ask_castable(const uint32_t *, size_t, uint32_t, uint32_t, uint32_t, uint32_t *, uint64_t *);
+static ask_castable *volatile castable = (ask_castable *)(void (*)(void))delta_null_castable;
+static uint32_t source, target;
+static uint64_t all_pairs;
+
+static uint32_t ask_cast(uint32_t *answer) {
+    uint64_t pairs = 0; /* and stays so with that library */
+    uint32_t refused = castable(rows, count * DELTA_NULL_ROW_WORDS, count, source, target, answer, &pairs);
+    if (pairs && pairs != all_pairs) {
+        fprintf(stderr, "questions: not as many pairs are tried as there are\n");
+        exit(1);
+    }
+    return refused;
+}
+
 static double now(void) {
     struct timespec time;
     clock_gettime(CLOCK_MONOTONIC, &time);
     return time.tv_sec * 1e9 + time.tv_nsec;
 }
 
-/* Microseconds of one call, with the size of u16 if it is asked, else whether u16 is assignable to u16. */
-static double fastest(int of_size) {
+/* Microseconds of one call, the answer of which is known. */
+static double fastest(uint32_t (*ask)(uint32_t *), uint32_t expected) {
     double start = now(), best = 1e18;
     for (int round = 0; round < LEAST_ROUNDS || (round < ROUNDS && now() - start < LONG); round++) {
-        uint32_t answer, before = count * DELTA_NULL_ROW_WORDS;
+        uint32_t answer;
         double turn = now();
-        uint32_t refused = of_size ? word_size(rows, before, count, U16, &answer)
-                                   : delta_null_assignable(rows, before, count, U16, U16, &answer);
+        uint32_t refused = ask(&answer);
         double time = (now() - turn) / 1e3;
-        if (refused || answer != 1) {
+        if (refused || answer != expected) {
             fprintf(stderr, "questions: a good table is refused with %u, or the answer is %u\n", refused, answer);
             exit(1);
         }
@@ -110,16 +140,29 @@ static double fastest(int of_size) {
     return best;
 }
 
+static void measure_casts(void) {
+    printf("casts between distinct aliases:");
+    for (size_t size = 0; size < sizeof lengths / sizeof *lengths; size++) {
+        add_fixed();
+        source = chain(BOOL, lengths[size]), target = chain(U16, lengths[size]);
+        all_pairs = (uint64_t)(lengths[size] + 1) * (lengths[size] + 1);
+        double time = fastest(ask_cast, 0);
+        printf(" %u aliases %.1f, %.2f;", lengths[size], time, time * 1e3 / all_pairs);
+    }
+    printf("\n");
+}
+
 int main(void) {
     for (size_t class = 0; class < sizeof classes / sizeof *classes; class++) {
         printf("%s:", classes[class].name);
         for (size_t size = 0; size < sizeof counts / sizeof *counts; size++) {
             add_fixed();
             for (uint32_t number = 0; count < counts[size]; number++) classes[class].add_next(number);
-            printf(" %u rows %.1f, %.1f;", count, fastest(0), fastest(1));
+            printf(" %u rows %.1f, %.1f;", count, fastest(ask_assignable, 1), fastest(ask_size, 1));
             fflush(stdout);
         }
         printf("\n");
     }
+    measure_casts();
     return 0;
 }

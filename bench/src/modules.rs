@@ -20,15 +20,15 @@ pub struct Class {
 /// Classes of one sort: their name, what makes a module of a size, and the sizes.
 pub type Row = (&'static str, fn(usize) -> Vec<u8>, &'static [usize]);
 
-/// Whether the reference can be asked.
-pub fn is_fit(bytes: &[u8]) -> bool {
-    layout::read(bytes).is_ok_and(|module| model::check(&module).work <= MOST_WORK)
+/// Whether the reference has at most so much work with a module.
+pub fn is_fit(bytes: &[u8], most: u64) -> bool {
+    layout::read(bytes).is_ok_and(|module| model::check(&module).work <= most)
 }
 
 /// Generated modules of some sizes.
 fn generated(class: &str, sizes: std::ops::RangeInclusive<usize>, count: usize) -> Vec<Vec<u8>> {
     let drawn = (0..).map(|seed| generate::module(class, seed));
-    drawn.filter(|bytes| sizes.contains(&bytes.len()) && is_fit(bytes)).take(count).collect()
+    drawn.filter(|bytes| sizes.contains(&bytes.len()) && is_fit(bytes, MOST_WORK)).take(count).collect()
 }
 
 /// The items of generated modules one after another, each with its own names, up to so many bytes.

@@ -9,9 +9,9 @@ use oracle::{
 
 use crate::modules::{Row, aliases, hash, named, numbered, over};
 
-/// The last of a row has as near 65,536 bytes as it goes. In the last two rows all have: the numbers are those of fields
-/// or parameters.
-pub const ROWS: [Row; 18] = [
+/// The last of a row has as near 65,536 bytes as it goes, but for the casts of short chains, whose last is the longest that the reference
+/// ends on. In the last two rows all have: the numbers are those of fields or parameters.
+pub const ROWS: [Row; 20] = [
     ("repeated fields", repeated_fields, &[204, 408, 817, 1_635]),
     ("paired fields", paired_fields, &[162, 324, 650, 1_300]),
     ("uses of an alias chain", chain_uses, &[61, 122, 245, 490]),
@@ -22,6 +22,8 @@ pub const ROWS: [Row; 18] = [
     ("struct compound in reverse", fields_in_reverse, &[77, 155, 310, 620]),
     ("absent fields", absent_fields, &[92, 185, 370, 740]),
     ("casts of distinct chains", distinct_casts, &[41, 83, 166, 333]),
+    ("few casts of deep chains", few_casts, &[60, 120, 240, 479]),
+    ("a cast of short chains", one_cast, &[2, 4, 6, 8, 10]),
     ("internal aliases", internal_aliases, &[61, 122, 245, 490]),
     ("loops around blocks", loops, &[400, 800, 1_600, 3_200]),
     ("rows past the index", limits::with_rows, &[785, 1_570, 3_140, 6_280]),
@@ -138,18 +140,33 @@ fn absent_fields(count: usize) -> Vec<u8> {
     numbered(0, vec![variable(X, structure((0..count).map(|_| X))), elements(named(X), count, access)])
 }
 
-/// Two chains of so many distinct aliases, over bool and over u16, and casts from the one to the other: no pair fits.
-fn distinct_casts(count: usize) -> Vec<u8> {
+/// Two chains of so many distinct aliases, over bool and over u16, and so many casts from the one to the other and back: no pair fits.
+fn casts_of_chains(count: usize, casts: usize) -> Vec<u8> {
     let lasts = [count as u32 + 2, 2 * count as u32 + 2];
     let mut items = aliases(3, count, 1, 0);
     items.extend(aliases(3 + count as u32, count, 1, 1));
     items.push(variable(2, named(lasts[0])));
-    let casts = (0..count * 4 / 3).collect::<Vec<_>>();
+    let casts = (0..casts).collect::<Vec<_>>();
     for some in casts.chunks(60) {
         let value = some.iter().fold(id(2), |e, i| record(38, &[0], vec![e, named(lasts[1 - i % 2])]));
         items.push(record(83, &[0], vec![void(), value]));
     }
     over(&["u16", "bool", "x"], 2 * count, items)
+}
+
+/// As many casts as the chains are long, and a third more.
+fn distinct_casts(count: usize) -> Vec<u8> {
+    casts_of_chains(count, count * 4 / 3)
+}
+
+/// Four casts of chains that fill the file.
+fn few_casts(count: usize) -> Vec<u8> {
+    casts_of_chains(count, 4)
+}
+
+/// One cast. The reference's search takes some five times as long with each alias more on both sides.
+fn one_cast(count: usize) -> Vec<u8> {
+    casts_of_chains(count, 1)
 }
 
 /// Internal aliases of the last of so many aliases of u16.

@@ -7,6 +7,7 @@ use crate::{
     buffers, damage, generate, hand,
     layout::{self, MOST_BYTES, Module, Refusal},
     model, orders,
+    pairs::Casts,
     product::{FILL, Loans, Product, REPORT, Said},
     reference::{self, MOST_WORK, Silence},
     relate,
@@ -26,12 +27,17 @@ pub struct Truth {
     pub silence: Option<Silence>,
     /// For the words of how many of its types the reference was asked.
     pub words_asked: usize,
+    /// The casts in the module, by the model.
+    pub casts: Casts,
 }
 
 /// What the reference and the model say of a file. Where both speak they must agree.
 pub fn truth(bytes: &[u8]) -> Result<Truth, String> {
     let module = match layout::read(bytes) {
-        Err(refusal) => return Ok(Truth { outcome: Err(refusal), silence: None, words_asked: 0 }),
+        Err(refusal) => {
+            let casts = Casts::default();
+            return Ok(Truth { outcome: Err(refusal), silence: None, words_asked: 0, casts });
+        }
         Ok(module) => module,
     };
     let outcome = model::check(&module);
@@ -45,7 +51,7 @@ pub fn truth(bytes: &[u8]) -> Result<Truth, String> {
         Err(silence) => Some(silence),
     };
     let words_asked = relate::ask_words(&outcome.answer.rows)?;
-    Ok(Truth { outcome: Ok((module, outcome.answer)), silence, words_asked })
+    Ok(Truth { outcome: Ok((module, outcome.answer)), silence, words_asked, casts: outcome.casts })
 }
 
 /// The first line in which two texts differ.
@@ -167,6 +173,7 @@ struct Compare<'a> {
     no_bytes: usize,
     /// For the words of how many types the reference was asked.
     words_asked: usize,
+    casts: Casts,
     orders: usize,
     differences: usize,
 }
@@ -195,6 +202,7 @@ impl Compare<'_> {
         let number = truth.refusal(bytes, loans).map_or(0, |refusal| refusal.number);
         self.refused[number as usize] += 1;
         self.words_asked += truth.words_asked;
+        self.casts.add(truth.casts);
         match &truth.outcome {
             Ok((module, answer)) => self.stats.add_good(bytes, module, answer),
             Err(refusal) => self.stats.add_refused(bytes, *refusal),
@@ -268,6 +276,7 @@ impl Compare<'_> {
         let _ = writeln!(text, "the reference was asked for the words of {} types", self.words_asked);
         let [undecodable, large, late] = self.silent;
         let _ = writeln!(text, "the model alone: no UTF-8 {undecodable}, too large {large}, timeout {late}");
+        text += &self.casts.text();
         text += &self.stats.missing();
         let _ = writeln!(text, "differences {}", self.differences);
         text
@@ -317,6 +326,7 @@ pub fn compare(seed: u64, count: usize, program: &Path, folder: &Path) -> Result
         judged: [0; 4],
         no_bytes: 0,
         words_asked: 0,
+        casts: Casts::default(),
         orders: 0,
         differences: 0,
     };

@@ -31,6 +31,7 @@ pub mod literals;
 pub mod messages;
 pub mod model;
 pub mod orders;
+pub mod pairs;
 pub mod product;
 pub mod reference;
 pub mod relate;

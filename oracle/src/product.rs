@@ -55,11 +55,13 @@ pub enum Question {
     WordSize { n: u32 },
 }
 
-/// What is said to a question: 0 or the number of the refusal, and the value.
+/// What is said to a question: 0 or the number of the refusal, the value, and of castable the pairs tried.
 #[derive(Clone, Copy, Debug, PartialEq, Eq)]
 pub struct Reply {
     pub number: u32,
     pub value: u32,
+    /// 0 of the other questions.
+    pub pairs: u64,
 }
 
 /// How long the product may take for one module, or for the questions about one table.
@@ -140,7 +142,7 @@ mod linked {
             place: *mut usize,
         ) -> u32;
 
-        /// 0 with the answer, 1 or 0, or the number of the refusal. So does `castable`.
+        /// 0 with the answer, 1 or 0, or the number of the refusal. So does `castable`, with the pairs tried.
         fn delta_null_assignable(
             rows: *const u32,
             rows_len: usize,
@@ -157,6 +159,7 @@ mod linked {
             source: u32,
             target: u32,
             answer: *mut u32,
+            pairs: *mut u64,
         ) -> u32;
 
         /// 0 with the size, or the number of the refusal.
@@ -215,7 +218,7 @@ mod linked {
 
     fn reply(rows: &[u32], count: u32, question: Question) -> Reply {
         let (words, length) = (rows.as_ptr(), rows.len());
-        let mut reply = Reply { number: 0, value: FILL };
+        let mut reply = Reply { number: 0, value: FILL, pairs: 0 };
         // The slices are apart from each other, and the functions keep none of them.
         reply.number = unsafe {
             match question {
@@ -223,7 +226,8 @@ mod linked {
                     delta_null_assignable(words, length, count, target, source, &mut reply.value)
                 }
                 Question::Castable { source, target } => {
-                    delta_null_castable(words, length, count, source, target, &mut reply.value)
+                    reply.pairs = u64::MAX;
+                    delta_null_castable(words, length, count, source, target, &mut reply.value, &mut reply.pairs)
                 }
                 Question::WordSize { n } => delta_null_word_size(words, length, count, n, &mut reply.value),
             }

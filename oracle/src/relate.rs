@@ -3,7 +3,8 @@
 use crate::{
     footprint::{Asked, Footprint},
     ir::{IntegerSize, Type as Direct},
-    rows::{Rows, STRING_NAME, Words, kind},
+    pairs::Casts,
+    rows::{Cast, Rows, STRING_NAME, Words, kind},
     type_check::{Type, types_are_assignable},
 };
 
@@ -11,8 +12,8 @@ use crate::{
 const MOST_NODES: u64 = 2_000;
 /// The most nodes of the types of a module together.
 const MOST_NODES_OF_A_MODULE: u64 = 20_000;
-/// The most distinct aliases on a type for which the reference is asked.
-const MOST_LAYERS: usize = 8;
+/// The most distinct aliases at the top of a type for which the reference is asked.
+const MOST_ALIASES: usize = 8;
 
 /// The reference's type for a row.
 fn reference_type(rows: &Rows, number: u32) -> Type {
@@ -41,28 +42,21 @@ fn reference_type(rows: &Rows, number: u32) -> Type {
     }
 }
 
-fn distinct_layers(rows: &Rows, mut number: u32) -> usize {
-    let mut layers = 0;
-    while rows.row(number).kind == kind::DISTINCT {
-        number = rows.row(number).first;
-        layers += 1;
-    }
-    layers
-}
-
 /// What is true of a table that keeps the rules.
 pub struct Related {
     /// The words of every row, cells included.
     pub words: Vec<Words>,
     /// The type rows.
     pub types: Vec<u32>,
-    /// For every pair of type rows, in order: whether the second is assignable to the first, and whether the first is
-    /// castable to the second.
-    pub pairs: Vec<(bool, bool)>,
+    /// For every pair of type rows, in order: whether the second is assignable to the first, and the cast of the first to
+    /// the second.
+    pub pairs: Vec<(bool, Cast)>,
     /// How many words of types, and how many pairs, the reference was asked for.
     pub asked: [usize; 2],
     /// What those pairs show of paper 5's sentences.
     pub footprint: Footprint,
+    /// What all pairs show of paper 11's.
+    pub casts: Casts,
 }
 
 /// The type rows of a table.
@@ -94,17 +88,18 @@ pub fn ask_words(rows: &Rows) -> Result<usize, String> {
     Ok(asked)
 }
 
-/// What the rules say of a table. The reference is asked wherever it can answer; where it and the rules differ, or its answers are not
-/// as paper 5 says, that is the error.
+/// What the rules say of a table. The reference is asked wherever it can answer; where it and the rules differ, its answers are not
+/// as paper 5 says, or a cast tries not as many pairs as paper 11 says, that is the error.
 pub fn related(rows: &Rows) -> Result<Related, String> {
     let sizes = rows.unfolded_sizes();
-    let small = |number: u32| sizes[number as usize - 1] <= MOST_NODES && distinct_layers(rows, number) <= MOST_LAYERS;
+    let small = |number: u32| sizes[number as usize - 1] <= MOST_NODES && rows.distinct_aliases(number) <= MOST_ALIASES;
     let mut related = Related {
         words: rows.words(),
         types: types_of(rows),
         pairs: vec![],
         asked: [0; 2],
         footprint: Footprint::default(),
+        casts: Casts::default(),
     };
     let references: Vec<Option<Asked>> =
         related.types.iter().map(|&number| small(number).then(|| Asked::new(reference_type(rows, number)))).collect();
@@ -115,14 +110,16 @@ pub fn related(rows: &Rows) -> Result<Related, String> {
     }
     for (&a, a_asked) in related.types.iter().zip(&references) {
         for (&b, b_asked) in related.types.iter().zip(&references) {
-            let said = (rows.assignable(a, b), rows.castable(a, b));
+            let (assignable, cast) = (rows.assignable(a, b), rows.cast(a, b));
             if let (Some(x), Some(y)) = (a_asked, b_asked) {
-                if (types_are_assignable(&x.ty, &y.ty), x.ty.is_castable_to(&y.ty)) != said {
+                if (types_are_assignable(&x.ty, &y.ty), x.ty.is_castable_to(&y.ty)) != (assignable, cast.castable) {
                     return Err(format!("rows {a} and {b}: the reference and the rules differ"));
                 }
                 related.asked[1] += 1;
             }
-            related.pairs.push(said);
+            let counted = related.casts.count(rows.distinct_aliases(a), rows.distinct_aliases(b), cast);
+            counted.map_err(|why| format!("rows {a} and {b}: {why}"))?;
+            related.pairs.push((assignable, cast));
         }
     }
     related.count_footprint(&references)?;
@@ -135,7 +132,7 @@ impl Related {
         for (i, target) in references.iter().enumerate() {
             for (j, source) in references.iter().enumerate() {
                 let (Some(target), Some(source)) = (target, source) else { continue };
-                let (assignable, castable) = (self.pair(i, j).0, self.pair(j, i).1);
+                let (assignable, castable) = (self.pair(i, j).0, self.pair(j, i).1.castable);
                 let counted = self.footprint.count(target, source, assignable, castable);
                 counted.map_err(|why| format!("target {}, source {}: {why}", self.types[i], self.types[j]))?;
             }
@@ -148,12 +145,13 @@ impl Related {
         self.types.binary_search(&number).ok()
     }
 
-    /// Whether the second of two type rows, by their places, is assignable to the first, and the first castable to the second.
-    pub fn pair(&self, a: usize, b: usize) -> (bool, bool) {
+    /// Whether the second of two type rows, by their places, is assignable to the first, and the cast of the first to the second.
+    pub fn pair(&self, a: usize, b: usize) -> (bool, Cast) {
         self.pairs[a * self.types.len() + b]
     }
 
-    /// The words of every type row, then every assignable and every castable pair, by row number.
+    /// The words of every type row, then by row number every assignable pair, and every castable one with the pairs of strips tried. One
+    /// that is not castable is there if it tries several.
     pub fn text(&self) -> String {
         let mut text = String::new();
         for &number in &self.types {
@@ -165,12 +163,14 @@ impl Related {
         }
         for (i, a) in self.types.iter().enumerate() {
             for (j, b) in self.types.iter().enumerate() {
-                let (assignable, castable) = self.pair(i, j);
+                let (assignable, Cast { castable, pairs }) = self.pair(i, j);
                 if assignable {
                     text += &format!("assignable {a} {b}\n");
                 }
                 if castable {
-                    text += &format!("castable {a} {b}\n");
+                    text += &format!("castable {a} {b} pairs {pairs}\n");
+                } else if pairs > 1 {
+                    text += &format!("not castable {a} {b} pairs {pairs}\n");
                 }
             }
         }

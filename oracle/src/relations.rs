@@ -10,9 +10,10 @@ use std::{
 use crate::{
     buffers,
     footprint::Footprint,
+    pairs::Casts,
     product::{Product, Question, Reply},
     relate::{self, Related},
-    rows::{ROW_WIDTH, TOO_LARGE, UNKNOWN_INSIDE},
+    rows::{Cast, ROW_WIDTH, TOO_LARGE, UNKNOWN_INSIDE},
     tables::{self, Breach, Table},
     tree::Random,
 };
@@ -35,23 +36,23 @@ fn truth(table: &Table) -> Result<Truth, String> {
 impl Truth {
     /// What has to be said to a question: 8 if the rows break a rule or a number is no type row.
     fn reply(&self, question: Question) -> Reply {
-        let value = self.0.as_ref().and_then(|related| match question {
+        let said = self.0.as_ref().and_then(|related| match question {
             Question::Assignable { target, source } => {
                 let (assignable, _) = related.pair(related.place(target)?, related.place(source)?);
-                Some(u32::from(assignable))
+                Some((u32::from(assignable), 0))
             }
             Question::Castable { source, target } => {
-                let (_, castable) = related.pair(related.place(source)?, related.place(target)?);
-                Some(u32::from(castable))
+                let (_, Cast { castable, pairs }) = related.pair(related.place(source)?, related.place(target)?);
+                Some((u32::from(castable), pairs))
             }
             Question::WordSize { n } => {
                 related.place(n)?;
-                Some(related.words[n as usize - 1].word())
+                Some((related.words[n as usize - 1].word(), 0))
             }
         });
-        match value {
-            Some(value) => Reply { number: 0, value },
-            None => Reply { number: 8, value: 0 },
+        match said {
+            Some((value, pairs)) => Reply { number: 0, value, pairs },
+            None => Reply { number: 8, value: 0, pairs: 0 },
         }
     }
 }
@@ -105,6 +106,7 @@ struct Compare<'a> {
     asked: [usize; 2],
     alone: [usize; 2],
     footprint: Footprint,
+    casts: Casts,
     differences: usize,
 }
 
@@ -154,6 +156,7 @@ impl Compare<'_> {
         self.tables[usize::from(truth.0.is_none())] += 1;
         if let Some(related) = &truth.0 {
             self.footprint.add(related.footprint);
+            self.casts.add(related.casts);
             let all = [related.types.len(), related.pairs.len()];
             for (i, all) in all.into_iter().enumerate() {
                 self.asked[i] += related.asked[i];
@@ -211,6 +214,7 @@ impl Compare<'_> {
         let ([assignable, castable, words], [a, c, w]) = (self.questions, self.answers);
         let _ = writeln!(text, "assignable {assignable}: yes {}, no {}", a[1], a[0]);
         let _ = writeln!(text, "castable {castable}: yes {}, no {}", c[1], c[0]);
+        text += &self.casts.text();
         let _ = writeln!(text, "words {words}: a number {}, too large {}, unknown {}", w[0], w[1], w[2]);
         let _ = writeln!(text, "refused with 8: {}", self.refused);
         let [types, pairs] = self.alone;
@@ -224,7 +228,8 @@ impl Compare<'_> {
 
 /// In what two replies differ.
 fn why(expected: Reply, said: Reply) -> String {
-    format!("oracle {} with {}, product {} with {}", expected.number, expected.value, said.number, said.value)
+    let text = |reply: Reply| format!("{} with {}, pairs {}", reply.number, reply.value, reply.pairs);
+    format!("oracle {}; product {}", text(expected), text(said))
 }
 
 /// What differs in the product's reply to one question.
@@ -302,6 +307,7 @@ pub fn compare(seed: u64, count: usize, program: &Path, folder: &Path) -> Result
         asked: [0; 2],
         alone: [0; 2],
         footprint: Footprint::default(),
+        casts: Casts::default(),
         differences: 0,
     };
     for i in 0..count {

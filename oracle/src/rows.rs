@@ -45,6 +45,13 @@ pub struct Rows {
     numbers: HashMap<Row, u32>,
 }
 
+/// Whether a value may be cast, and how many pairs of strips were tried to say so (document 02, paper 11).
+#[derive(Clone, Copy, Debug, Default, PartialEq, Eq)]
+pub struct Cast {
+    pub castable: bool,
+    pub pairs: u64,
+}
+
 /// The words of a type, or of a cell by paper 3.
 #[derive(Clone, Copy, Debug, PartialEq, Eq)]
 pub enum Words {
@@ -164,22 +171,47 @@ impl Rows {
         }
     }
 
-    /// The type and what is left as distinct aliases are taken from its top, one by one.
-    fn distinct_layers(&self, ty: u32) -> Vec<u32> {
-        let mut layers = vec![ty];
-        while let row @ Row { kind: kind::DISTINCT, .. } = self.row(*layers.last().unwrap()) {
-            layers.push(row.first);
+    /// How many distinct aliases a type has at its top.
+    pub fn distinct_aliases(&self, mut ty: u32) -> usize {
+        let mut count = 0;
+        while self.row(ty).kind == kind::DISTINCT {
+            ty = self.row(ty).first;
+            count += 1;
         }
-        layers
+        count
+    }
+
+    /// The type and what is left as distinct aliases are taken from its top, one by one.
+    fn strips(&self, ty: u32) -> Vec<u32> {
+        let mut strips = vec![ty];
+        while let row @ Row { kind: kind::DISTINCT, .. } = self.row(*strips.last().unwrap()) {
+            strips.push(row.first);
+        }
+        strips
+    }
+
+    /// Each strip of the source with each strip of the target, in order, up to the first pair that fits.
+    pub fn cast(&self, from: u32, to: u32) -> Cast {
+        let targets = self.strips(to);
+        let mut pairs = 0;
+        for a in self.strips(from) {
+            for &b in &targets {
+                pairs += 1;
+                if self.fits(a, b) {
+                    return Cast { castable: true, pairs };
+                }
+            }
+        }
+        Cast { castable: false, pairs }
     }
 
     /// Whether a value of one type may be cast to another.
     pub fn castable(&self, from: u32, to: u32) -> bool {
-        let targets = self.distinct_layers(to);
-        self.distinct_layers(from).iter().any(|&a| targets.iter().any(|&b| self.castable_pair(a, b)))
+        self.cast(from, to).castable
     }
 
-    fn castable_pair(&self, a: u32, b: u32) -> bool {
+    /// Whether a pair of strips fits.
+    fn fits(&self, a: u32, b: u32) -> bool {
         let integer = |ty| ty == U16 || ty == I16;
         let pointer = |ty| self.row(ty).kind == kind::POINTER;
         (integer(a) && integer(b))

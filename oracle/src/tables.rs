@@ -1,7 +1,10 @@
 //! Tables of rows: good ones from a seed, and tables in which one rule of document 01 is broken.
 
 use crate::{
-    rows::{self, ROW_WIDTH, Row, Rows, STRING_NAME, TOO_LARGE, U16, UNKNOWN, UNKNOWN_INSIDE, kind},
+    rows::{
+        self, BOOL, I16, POINTER_TO_U16, ROW_WIDTH, Row, Rows, STRING, STRING_NAME, TOO_LARGE, U16, UNKNOWN,
+        UNKNOWN_INSIDE, kind,
+    },
     tree::Random,
 };
 
@@ -35,7 +38,7 @@ fn add_row(random: &mut Random, rows: &mut Rows) {
     let ty = if random.chance(60) { *random.pick(&types[recent..]) } else { *random.pick(&types) };
     let name = random.below(5) as u32;
     let size = *random.pick(&[0, 1, 2, 3, 4, 16, 255, 256, 257, 65_535, 65_536, u32::MAX]);
-    match random.below(13) {
+    match random.below(14) {
         0 | 1 => rows.pointer(ty),
         2 | 3 => rows.array(ty, size),
         4 => rows.put(kind::STRUCT, *random.pick(&fields), 0, 0),
@@ -44,7 +47,8 @@ fn add_row(random: &mut Random, rows: &mut Rows) {
         8 | 9 => rows.alias(ty, name, true),
         10 => rows.put(kind::FIELD, ty, *random.pick(&fields), name),
         11 => rows.put(kind::ARGUMENT, ty, *random.pick(&arguments), 0),
-        _ => add_decay(random, rows, ty, size),
+        12 => add_decay(random, rows, ty, size),
+        _ => add_chains(random, rows, ty),
     };
 }
 
@@ -62,6 +66,31 @@ fn add_decay(random: &mut Random, rows: &mut Rows, ty: u32, size: u32) -> u32 {
         }
     }
     source
+}
+
+/// A chain of aliases, a longer one over it, and another over the same or over a type of its own. The number of the last.
+fn add_chains(random: &mut Random, rows: &mut Rows, ty: u32) -> u32 {
+    let base = chain_base(random, rows, ty);
+    let tail = add_chain(random, rows, base);
+    let other = if random.chance(50) { tail } else { chain_base(random, rows, ty) };
+    add_chain(random, rows, tail);
+    add_chain(random, rows, other)
+}
+
+/// A type to begin a chain with, now and then behind a transparent alias.
+fn chain_base(random: &mut Random, rows: &mut Rows, ty: u32) -> u32 {
+    let structure = rows.structure(&[(0, U16)]);
+    let pointer = rows.pointer(BOOL);
+    let base = *random.pick(&[BOOL, U16, I16, POINTER_TO_U16, STRING, pointer, structure, ty]);
+    if random.chance(30) { rows.alias(base, random.below(5) as u32, false) } else { base }
+}
+
+/// Aliases over a type, all of them distinct or most: a few, and now and then more than the reference is asked about. The number of the
+/// last.
+fn add_chain(random: &mut Random, rows: &mut Rows, ty: u32) -> u32 {
+    let length = if random.chance(4) { random.between(9, 24) } else { random.between(0, 5) };
+    let distinct = *random.pick(&[100, 100, 75]);
+    (0..length).fold(ty, |ty, _| rows.alias(ty, random.below(3) as u32, random.chance(distinct)))
 }
 
 fn all_rows(rows: &Rows) -> Vec<Row> {

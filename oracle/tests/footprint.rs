@@ -35,7 +35,8 @@ fn pointers_behind_aliases() {
     assert_eq!(rows.alias(10, 1, false), 11);
     let related = relate::related(&rows).unwrap();
     let assignable = |target, source| related.pair(related.place(target).unwrap(), related.place(source).unwrap()).0;
-    let castable = |source, target| related.pair(related.place(source).unwrap(), related.place(target).unwrap()).1;
+    let castable =
+        |source, target| related.pair(related.place(source).unwrap(), related.place(target).unwrap()).1.castable;
     assert!(assignable(6, 10) && castable(10, 6));
     assert!(assignable(6, 11) && !castable(11, 6));
     assert!(assignable(8, 10) && !castable(10, 8));

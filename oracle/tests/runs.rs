@@ -5,7 +5,7 @@ mod common;
 use std::time::Duration;
 
 use oracle::{
-    answer::Operand, buffers, compare, damage, generate, hand, layout, model, orders, reference, relate,
+    answer::Operand, buffers, compare, damage, generate, hand, layout, model, orders, pairs::Casts, reference, relate,
     rows::ROW_WIDTH, shrink, tables,
 };
 
@@ -54,11 +54,28 @@ fn damaged_copies() {
 #[test]
 fn row_tables() {
     without_panic_messages();
+    let mut casts = Casts::default();
     for seed in 0..200 {
         if let Some(rows) = buffers::rows(&tables::file_words(seed)) {
-            relate::related(&rows).unwrap();
+            casts.add(relate::related(&rows).unwrap().casts);
         }
     }
+    assert_often(casts);
+}
+
+/// Each sort of cast is met often, also between more distinct aliases than the reference is asked about.
+fn assert_often(casts: Casts) {
+    let Casts { first, last, between, none, most, .. } = casts;
+    assert!([first, last, between, none].iter().all(|&casts| casts > 1_000) && most > 100, "{}", casts.text());
+}
+
+#[test]
+fn casts_of_modules() {
+    let mut casts = Casts::default();
+    for seed in 0..1_000 {
+        casts.add(model::check(&layout::read(&generate::module("casts", seed)).unwrap()).casts);
+    }
+    assert_often(casts);
 }
 
 #[test]

@@ -19,7 +19,7 @@ pub const CLASSES: [(&str, usize); 16] = [
     ("wild", 12),
     ("deep", 8),
     ("aliases", 10),
-    ("casts", 4),
+    ("casts", 10),
     ("literals", 3),
     ("statements", 6),
     ("big", 2),

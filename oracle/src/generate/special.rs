@@ -54,7 +54,11 @@ pub fn aliases(maker: &mut Maker) {
 
 /// Casts and assignments between pairs of types that are alike but for aliases, arrays and pointers.
 pub fn casts(maker: &mut Maker) {
-    let types = if maker.random.chance(50) { layered_types(maker) } else { decaying_types(maker) };
+    let types = match maker.random.below(4) {
+        0 => layered_types(maker),
+        1 => decaying_types(maker),
+        _ => chained_types(maker),
+    };
     let mut globals = vec![];
     for (i, &ty) in types.iter().enumerate() {
         let name = maker.name(format!("x{i}"));
@@ -115,6 +119,27 @@ fn layered_types(maker: &mut Maker) -> Vec<u32> {
             if maker.random.chance(20) {
                 ty = pointer;
             }
+        }
+    }
+    types
+}
+
+/// Chains of aliases, all of them distinct or most, each over a type of some sort or over a link of those before: a common tail.
+fn chained_types(maker: &mut Maker) -> Vec<u32> {
+    let field = maker.name("m");
+    let structure = maker.rows.structure(&[(field, U16)]);
+    let pointer = maker.rows.pointer(BOOL);
+    let mut types = vec![BOOL, U16, I16, POINTER_TO_U16, pointer, STRING, structure];
+    maker.random.shuffle(&mut types);
+    types.truncate(maker.random.between(1, 4));
+    for chain in 0..maker.random.between(2, 5) {
+        let mut ty = *maker.random.pick(&types);
+        let distinct = *maker.random.pick(&[100, 80, 60]);
+        let most = *maker.random.pick(&[2, 3, 4, 4, 5, 14]);
+        for link in 0..maker.random.between(1, most) {
+            let distinct = maker.random.chance(distinct);
+            ty = declare(maker, &format!("D{chain}_{link}"), ty, distinct);
+            types.push(ty);
         }
     }
     types
@@ -246,12 +271,16 @@ pub fn doubling(maker: &mut Maker) {
     maker.items.push(item);
 }
 
-/// A long chain of aliases, each of the one before or of a pointer to it.
+/// A long chain of aliases, each of the one before or of a pointer to it, or two, the second over bool or over a link of the first.
 pub fn chain(maker: &mut Maker) {
     let count = maker.random.between(3, 700);
     let distinct = *maker.random.pick(&[0, 2, 100]);
     let mut inner = maker.name("u16");
+    let second = maker.random.below(2 * count);
     for i in 0..count {
+        if i == second {
+            inner = if maker.random.chance(50) { maker.name("bool") } else { maker.random.below(i + 1) as u32 };
+        }
         let mut ty = maker.tree(16, &[0, inner], vec![]);
         if maker.random.chance(5) {
             ty = maker.tree(18, &[0], vec![ty]);

@@ -1,5 +1,6 @@
 //! Modules by hand: records in few words, and the list of named modules for the replay.
 
+mod chains;
 mod expressions;
 mod faults;
 mod items;
@@ -224,6 +225,7 @@ pub struct Case {
 pub fn cases() -> Vec<Case> {
     let mut all = vec![];
     expressions::add(&mut all);
+    chains::add(&mut all);
     statements::add(&mut all);
     items::add(&mut all);
     limits::add(&mut all);

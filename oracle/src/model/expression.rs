@@ -106,11 +106,13 @@ impl Model {
     fn cast(&mut self, record: &Record, scope: &Scope) -> u32 {
         let from = self.expression(&record.children[0], scope);
         let to = self.convert(&record.children[1]);
-        if !self.answer.rows.castable(from, to) {
+        let cast = self.answer.rows.cast(from, to);
+        if !cast.castable {
             self.error(15, record.at, &[Operand::Row(from), Operand::Row(to)]);
         }
-        let tries = tries(self.distinct_depth(from), self.distinct_depth(to));
-        self.cast_work = self.cast_work.saturating_add(tries);
+        let [source, target] = [from, to].map(|ty| self.answer.rows.distinct_aliases(ty));
+        self.casts.count(source, target, cast).expect("as many pairs as paper 11 says");
+        self.cast_work = self.cast_work.saturating_add(tries(source, target));
         to
     }
 
@@ -164,15 +166,6 @@ impl Model {
             self.error(24, record.at, &[Operand::Number(operator), Operand::Row(left), Operand::Row(right)]);
         }
         left
-    }
-
-    fn distinct_depth(&self, mut ty: u32) -> usize {
-        let mut depth = 0;
-        while self.answer.rows.row(ty).kind == kind::DISTINCT {
-            ty = self.answer.rows.row(ty).first;
-            depth += 1;
-        }
-        depth
     }
 }
 

@@ -12,6 +12,7 @@ use std::collections::HashMap;
 use crate::{
     answer::{Answer, Error, Operand},
     layout::{Module, Place, Record},
+    pairs::Casts,
     rows::{BOOL, I16, STRING, U16, UNKNOWN, VOID},
 };
 
@@ -26,6 +27,8 @@ pub struct Outcome {
     pub answer: Answer,
     /// A bound on the type nodes that the reference copies, compares or prints, up to a small factor.
     pub work: u64,
+    /// The casts in the module.
+    pub casts: Casts,
 }
 
 /// Checks a module.
@@ -42,7 +45,7 @@ pub fn check(module: &Module) -> Outcome {
     for &row in model.touched.iter().chain(model.answer.slots.iter().map(|(_, row)| row)) {
         work = work.saturating_add(sizes[row as usize - 1]);
     }
-    Outcome { answer: model.answer, work }
+    Outcome { answer: model.answer, work, casts: model.casts }
 }
 
 struct Model {
@@ -55,6 +58,7 @@ struct Model {
     /// Types met in pass 1 and the operands of errors.
     touched: Vec<u32>,
     cast_work: u64,
+    casts: Casts,
 }
 
 /// The names of one function, and the type that it returns.
@@ -84,6 +88,7 @@ impl Model {
             answer: Answer::default(),
             touched: vec![],
             cast_work: 0,
+            casts: Casts::default(),
         }
     }
 
