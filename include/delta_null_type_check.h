@@ -7,7 +7,7 @@
  * any bytes and any words: what is wrong or too short is refused.
  *
  * A call needs at most 128 KB (131,072 bytes) of stack, whatever the module and the parts lent. No proof speaks of the stack: this is
- * measured, by callers/c/stack.c, on the deepest and the longest modules that were found; the most is 90,133 bytes.
+ * measured, by callers/c/stack.c, on the deepest and the longest modules that were found; the most is 89,189 bytes.
  *
  * What a caller owes, since the proof takes it from the types `&` and `&mut`:
  *  - a pointer is not NULL, even where the length is 0, and is aligned for its type;
