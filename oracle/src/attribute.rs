@@ -16,7 +16,7 @@ use crate::{
     messages,
     node::{self, *},
     rows::{self, Rows},
-    type_check::{Type, TypeError, inside},
+    type_check::{Type, TypeError, inside, types_are_assignable},
 };
 
 /// An operand as a message prints it.
@@ -75,6 +75,21 @@ pub fn attribute(
     reading.finish()
 }
 
+/// Whether the reference raises an error of such operands. Types may be printed alike, as a pointer and an alias that is named `*u16`, of
+/// which one is in order and the other is not.
+fn is_raised(kind: u32, said: &[Said]) -> bool {
+    match (kind, said) {
+        (8, [Said::Type(source), Said::Type(target)]) => !types_are_assignable(target, source),
+        (9, [Said::Type(returned)]) => !returned.is_void(),
+        (12, [_, Said::Type(expected), Said::Type(got)]) => !types_are_assignable(expected, got),
+        (15, [Said::Type(from), Said::Type(to)]) => !from.is_castable_to(to),
+        (16, [Said::Type(ty)]) => !matches!(ty, Type::Pointer(_)),
+        (17, [Said::Type(ty)]) => !matches!(ty.desugar(), Type::Struct(_)),
+        (24, [_, Said::Type(Type::Pointer(_)), Said::Type(Type::Direct(right))]) => !right.is_integral(),
+        _ => true,
+    }
+}
+
 impl Attribution<'_> {
     /// Takes the next error if it is this one.
     fn may(&mut self, kind: u32, at: Place, said: &[Said]) -> bool {
@@ -93,7 +108,7 @@ impl Attribution<'_> {
                 Said::Operator(_, text) | Said::Text(text) => text.clone(),
             })
             .collect();
-        if !messages::says(text, kind, &operands) {
+        if !messages::says(text, kind, &operands) || !is_raised(kind, said) {
             return false;
         }
         let mut kept: Vec<Kept> = said

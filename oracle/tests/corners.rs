@@ -192,3 +192,44 @@ fn through_aliases_or_not() {
     let items = vec![global(X, ty(U16)), function(ty(BOOL), give(id(X))), global(X, ty(BOOL))];
     assert_eq!(errors(items), []);
 }
+
+/// A distinct alias of bool that is named `*u16` is printed as the pointer is, for which each of these is in order: whose error it is, is not
+/// told by its text and place. An alias that is named `void` is no void.
+#[test]
+fn types_printed_alike() {
+    let names = ["u16", "bool", "*u16", "pointer", "alias", "takes", "body", "void"].map(str::to_owned);
+    let [u16, bool, star, pointing, aliased, takes, body, void_name] = [0, 1, 2, 3, 4, 5, 6, 7];
+    let declared = || {
+        let parameter = record(85, &[pointing], vec![pointer(ty(u16))]);
+        vec![
+            alias(star, 1, ty(bool)),
+            alias(void_name, 0, ty(bool)),
+            global(pointing, pointer(ty(u16))),
+            global(aliased, ty(star)),
+            record(80, &[takes], vec![void(), parameter]),
+        ]
+    };
+    let evaluated = |e: Tree| record(65, &[], vec![e]);
+    let statements: [(&str, &dyn Fn(u32) -> Tree); 5] = [
+        ("16 0 0 0 (11 (3) 2) 0 0", &|x| evaluated(record(40, &[0], vec![id(x)]))),
+        ("24 0 0 0 1 (11 (3) 2) (4)", &|x| evaluated(record(45, &[0, 1], vec![id(x), literal("1", 10)]))),
+        ("15 0 0 0 (11 (3) 2) (4) 0", &|x| evaluated(cast(id(x), ty(u16)))),
+        ("8 0 0 0 (6 (4)) (11 (3) 2) 0", &|x| record(67, &[], vec![id(pointing), id(x)])),
+        ("12 0 0 0 1 (6 (4)) (11 (3) 2)", &|x| evaluated(record(36, &[0], vec![id(takes), id(x)]))),
+    ];
+    let said = |items: Vec<Tree>| {
+        let text = both(&Tree::module(&names, items).to_bytes()).text();
+        text.lines().filter_map(|line| line.strip_prefix("error ")).map(str::to_owned).collect::<Vec<_>>()
+    };
+    for (expected, statement) in statements {
+        let members = vec![statement(pointing), statement(aliased)];
+        let mut items = declared();
+        items.push(record(80, &[body], vec![void(), block(members)]));
+        assert_eq!(said(items), [expected]);
+    }
+    let mut items = declared();
+    for returned in [void(), ty(void_name)] {
+        items.push(record(80, &[body], vec![returned, record(69, &[], vec![])]));
+    }
+    assert_eq!(said(items), ["9 0 0 0 (10 (3) 7) 0 0"]);
+}
