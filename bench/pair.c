@@ -10,7 +10,7 @@
 
 #include "../include/delta_null_type_check.h"
 
-enum { MOST_BYTES = 65536, ROW_WORDS = 7000 * DELTA_NULL_ROW_WORDS, ERROR_WORDS = 28000, WORK_WORDS = 16376, MOST_TURNS = 4096 };
+enum { MOST_BYTES = 65536, ROW_WORDS = 7000 * DELTA_NULL_ROW_WORDS, ERROR_WORDS = 4000 * DELTA_NULL_ERROR_WORDS, WORK_WORDS = 16376, MOST_TURNS = 4096 };
 
 /* How many rounds there are, and how many at least, if they take longer than these nanoseconds. */
 enum { ROUNDS = 40, LEAST_ROUNDS = 5, LONG = 100000000 };

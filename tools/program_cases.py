@@ -1,8 +1,9 @@
 #!/usr/bin/env python3
-"""Makes the modules that the programs report and dump are run on: crates/report/stdin and crates/dump/stdin.
+"""Makes the modules that the programs report, messages and dump are run on: `stdin` of crates/report, crates/messages and crates/dump.
 
 Usage:  python3 tools/program_cases.py
-What report prints of its module is in document 01. What dump prints was compared with the oracle (`oracle render` and `oracle check`).
+What report prints of its module is in document 01; messages and dump are run on the same module. What dump prints was compared with the
+oracle (`oracle render` and `oracle check`), what messages prints too (`oracle messages`).
 """
 import os
 
@@ -60,9 +61,11 @@ early = record(73, 7, 5, identifier(7, 8, 'flag'), record(69, 7, 15, total))
 late = record(69, 8, 5, record(33, 8, 12, 0, 10, b'65536'))
 pair = record(85, 5, 9, number('pair'), record(18, 5, 15, 0, name_type(5, 16, 'Pair')))
 
-write('dump', module(NAMES, [
+program = module(NAMES, [
     record(81, 1, 1, number('Word'), 1, name_type(1, 13, 'u16')),
     record(81, 2, 1, number('Pair'), 0, record(20, 2, 12, 0, *fields)),
     record(83, 3, 1, number('text'), record(18, 3, 11, 0, name_type(3, 12, 'u16')), record(35, 3, 18, 0, b'hi')),
     record(80, 5, 1, number('sum'), name_type(5, 24, 'u16'), pair, record(64, 5, 30, 0, flag, early, late)),
-]))
+])
+write('messages', program)
+write('dump', program)

@@ -7,5 +7,5 @@ set -e
 need_reference
 cd "$(dirname "$0")/../oracle"
 cargo build --release --offline
-target/release/oracle replay 2200 1650 ../crates/replay/stdin ../crates/replay/cases.txt >../crates/replay/stdout
+target/release/oracle replay 2200 1650 300 ../crates/replay/stdin ../crates/replay/cases.txt >../crates/replay/stdout
 cat ../crates/replay/stdout

@@ -3,7 +3,8 @@
 
 ORACLE is the program built from oracle/ (oracle/README.md). FOLDER, new or of an earlier call, gets a copy of the crates that `meaning`
 needs and a crate `cases` whose theorems, four for each module, are closed by computation: the refusal of tests 1 to 4 or none; the counts;
-every error in order; the type of every slot in byte order. `rt check` there says whether they hold. It is no part of the gate.
+every error in order, with its place in the file; the type of every slot in byte order. `rt check` there says whether they hold. It is no
+part of the gate.
 """
 import argparse, os, re, shutil, subprocess
 
@@ -16,17 +17,17 @@ use mathlib.Core.Path.{_≡_, refl}
 use mathlib.Core.List.{List, [], _∷_, map}
 use mathlib.Core.Option.{Option, none, some}
 use Rattle.types.specs.Ty.{Ty, end, node}
-use Rattle.node.specs.Layout.{layoutOf, layoutRefusal}
-use Rattle.node.specs.Names.{repeatedName, nameRefusal, itemsOf}
-use Rattle.node.specs.Record.{itemTree}
+use Rattle.layout.specs.Layout.{layoutOf, layoutRefusal}
+use Rattle.names.specs.Names.{repeatedName, nameRefusal, itemsOf}
+use Rattle.trees.specs.Record.{itemTree}
 use Rattle.meaning.specs.TypeError.{TypeError, Operand, plain, row}
 use Rattle.meaning.specs.Context.{each}
 use Rattle.meaning.specs.Module.{itemTypes}
-use Rattle.meaning.specs.Promise.{errorsOf, Counts, countsOf, contextOf}
+use Rattle.meaning.specs.Promise.{placedErrorsOf, Counts, countsOf, contextOf}
 use Rattle.cases.proofs.Open.{opened}
 
-abbrev told : (kind file line column : ℕ) → (first second third : Operand) → TypeError
-told k f l c x y z = record { kind = k; file = f; line = l; column = c; first = x; second = y; third = z }
+abbrev told : (kind file line column : ℕ) → (first second third : Operand) → (place : ℕ) → TypeError
+told k f l c x y z p = record { kind = k; file = f; line = l; column = c; first = x; second = y; third = z; place = p }
 
 abbrev slotsOf : List ℕ → List Ty
 slotsOf m = each (λ b. itemTypes (contextOf m) (itemTree b)) (itemsOf m)
@@ -131,7 +132,7 @@ def operand(word):
 
 def error(line):
     said = words(line)
-    return ' '.join(['told'] + said[1:5] + [operand(word) for word in said[5:]])
+    return ' '.join(['told'] + said[1:5] + [operand(word) for word in said[5:8]] + said[8:])
 
 
 # --- the theorems
@@ -153,7 +154,7 @@ def accepted(i, said):
     return (
         theorem('passes-%d' % i, 'layoutRefusal (layoutOf module-%d) ≡ none' % i)
         + theorem('counts-%d' % i, 'countsOf module-%d ≡ record { rows = %s; errors = %s }' % (i, rows, errors))
-        + theorem('errors-%d' % i, 'errorsOf module-%d ≡ %s' % (i, listed(told)))
+        + theorem('errors-%d' % i, 'placedErrorsOf module-%d ≡ %s' % (i, listed(told)))
         + theorem('slots-%d' % i, 'slotsOf module-%d ≡ %s' % (i, listed(slots)))
     )
 

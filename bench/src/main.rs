@@ -1,5 +1,6 @@
 //! How long the product, the reference and a bare walk take for the same modules. README.md says how to run it.
 
+mod messages;
 mod modules;
 mod slow;
 mod walk;
@@ -69,11 +70,16 @@ struct Cost {
     walk: f64,
 }
 
-/// The product's time for a module. What asking costs is measured with two turns and taken off.
+/// The product's time for a module.
 fn timed(product: &mut Product, bytes: &[u8]) -> f64 {
+    timed_turns(|turns| product.repeat(bytes, turns))
+}
+
+/// The product's time for one of several turns. What asking costs is measured with two turns and taken off.
+fn timed_turns(mut ask: impl FnMut(u32) -> Result<(), String>) -> f64 {
     let mut asked = |turns: u32| {
         let before = Instant::now();
-        product.repeat(bytes, turns).expect("a product that answers");
+        ask(turns).expect("a product that answers");
         before.elapsed()
     };
     let asking = least(|| asked(2));
@@ -187,6 +193,21 @@ fn run(product: &Path, only: &str) -> Result<(), String> {
             shown(sum.decoded / sum.product, 1),
         );
     }
+    if product.tells() && "messages".starts_with(only) { run_messages(&mut product) } else { Ok(()) }
+}
+
+/// How long messages take; a program is not asked for them.
+fn run_messages(product: &mut Product) -> Result<(), String> {
+    println!("\n| messages of 2,000 errors | bytes of the module | bytes of the text | ns | bytes a second |");
+    println!("|---|---|---|---|---|");
+    for (name, question) in messages::questions(product)? {
+        let due = question.due().told;
+        assert_eq!(due.number, 0);
+        assert_eq!(product.told(std::slice::from_ref(&question))?, [due]);
+        let time = timed_turns(|turns| product.tell_again(&question, turns));
+        let (module, text) = (question.module.len(), question.text);
+        println!("| {name} | {module} | {text} | {time:.0} | {:.0} |", text as f64 / time * 1e9);
+    }
     Ok(())
 }
 
@@ -205,7 +226,7 @@ fn write(folder: &Path) -> Result<(), String> {
 fn main() -> ExitCode {
     let Some(product) = env::args().nth(1) else {
         eprintln!(
-            "usage: bench PRODUCT [CLASS] | bench write FOLDER\nOnly classes whose names begin so; PRODUCT is `linked` or a program that answers as oracle/src/product.rs says"
+            "usage: bench PRODUCT [CLASS] | bench write FOLDER\nOnly classes whose names begin so, `messages` for the messages; PRODUCT is `linked` or a program that answers as oracle/src/product.rs says"
         );
         return ExitCode::from(2);
     };

@@ -196,7 +196,7 @@ fn sizes(count: usize) -> Vec<u8> {
     numbered(0, vec![record(80, &[1], children)])
 }
 
-/// The product's hash of names (crates/node/src/names.rt).
+/// The product's hash of names (crates/names/src/lib.rt).
 pub fn hash(name: &[u8]) -> u64 {
     name.iter().fold(0, |h, &byte| (h + u64::from(byte)) * 668_265_263 % (1 << 32)) >> 22
 }

@@ -1,5 +1,6 @@
 /* Checks a module file and prints as the report program does: the counts, then kind, file, line and column of each error; turned back,
- * the number and the place. Last come two answers about rows, which any table has: what the other three functions say of them. */
+ * the number and the place. Then the errors as messages, a line each. Last come two answers about rows, which any table has: what the
+ * other three functions say of them. */
 #include <inttypes.h>
 #include <stdio.h>
 
@@ -12,7 +13,11 @@ enum { VOID_ROW = 2, U16_ROW = 4, I16_ROW = 5 };
 
 /* One byte more than a module may have, so that a longer file is refused as such. */
 static uint8_t input[INPUT_BYTES], output[INPUT_BYTES];
+static uint8_t text[DELTA_NULL_LONGEST_TEXT];
 static uint32_t rows[DELTA_NULL_ROW_WORDS * ROWS], errors[DELTA_NULL_ERROR_WORDS * ERRORS], work[WORK_WORDS];
+
+/* What messages print for the type String. */
+static const uint8_t string[] = {'S', 't', 'r', 'i', 'n', 'g'};
 
 static size_t words(size_t bytes)
 {
@@ -25,6 +30,21 @@ static void print_errors(size_t count)
         const uint32_t *e = errors + DELTA_NULL_ERROR_WORDS * i;
         printf("%u %u %u %u\n", e[0], e[1], e[2], e[3]);
     }
+}
+
+/* Prints the errors of the input as messages, or why they are refused; 0 if they are printed. */
+static uint32_t print_messages(size_t input_length, uint32_t row_count, size_t error_count)
+{
+    size_t length, place;
+    uint32_t refused = delta_null_messages(
+        input, input_length, rows, words(sizeof rows), row_count, errors, words(sizeof errors), error_count, string, sizeof string,
+        work, words(sizeof work), text, sizeof text, &length, &place);
+    if (refused != 0) {
+        printf("refused %u at %zu\n", refused, place);
+        return refused;
+    }
+    fwrite(text, 1, length, stdout); /* names may be any bytes */
+    return 0;
 }
 
 /* Asks the three questions about rows; 0 if all are answered. */
@@ -77,5 +97,5 @@ int main(int argc, char **argv)
     }
     printf("rows %u errors %zu\n", row_count, error_count);
     print_errors(error_count);
-    return print_relations(row_count) != 0;
+    return print_messages(length, row_count, error_count) != 0 || print_relations(row_count) != 0;
 }

@@ -1,7 +1,8 @@
 /* Checks the deepest and the longest modules on a thread with a small stack:  stack [BYTES], 131,072 unless told otherwise.
  * A line for each module: its words, its bytes and levels, and the bytes of stack that the check takes, below the caller's frame
- * and in all; last, the same for the dearest cast that the rows have room for. Ends with 1 if one needs more, is not answered as
- * expected, or what is lent is not left as promised. */
+ * and in all, then those that its messages take; then the same for the messages of many errors, of long rows and of texts of about a
+ * million bytes, and for the dearest cast that the rows have room for. Ends with 1 if one needs more, is not answered as expected, or what
+ * is lent is not left as promised. */
 #define _DEFAULT_SOURCE /* for MAP_ANONYMOUS */
 #include <ctype.h>
 #include <pthread.h>
@@ -17,7 +18,7 @@
 #include "delta_null_type_check.h"
 
 enum { MOST_BYTES = 65536, MOST_LEVELS = 64, PAGE = 4096 };
-enum { ROW_WORDS = 28000, ERROR_WORDS = 28000, WORK_WORDS = 16384 };
+enum { ROW_WORDS = 28000, ERROR_WORDS = 4000 * DELTA_NULL_ERROR_WORDS, WORK_WORDS = 16384 };
 
 /* What stands in the stack and in every part lent before a call. */
 enum { FILL = 0xa5 };
@@ -43,13 +44,15 @@ static const struct word {
     {"nested_65", 0, 0, 0, 0, "struct 64 member field", "", false},
     {"nested_257", 0, 0, 0, 0, "struct 256 member field", "", false},
     {"x", 32, 2, 0, X, "", "", true}, {"f", 32, 2, 0, F, "", "", true},
-    {"true", 34, 2, 0, 1, "", "", true}, {"text", 35, 1, 0, 0, "", "", true},
+    {"literal", 33, 2, 0, 10, "", "", true}, {"true", 34, 2, 0, 1, "", "", true},
+    {"text", 35, 1, 0, 0, "", "", true},
     {"call", 36, 1, 0, 0, "", "", false}, {"f_of", 36, 1, 0, 0, "f", "", false},
     {"at_x", 37, 1, 0, 0, "", "x", false}, {"x_at", 37, 1, 0, 0, "x", "", false},
     {"as_u16", 38, 1, 0, 0, "", "u16", false}, {"x_as", 38, 1, 0, 0, "x", "", false},
     {"address", 39, 1, 0, 0, "", "", false}, {"access", 41, 2, 0, X, "", "", false},
     {"not", 42, 1, 0, 0, "", "", false}, {"sizeof", 47, 1, 0, 0, "", "", false},
     {"plus_x", 45, 2, 0, 1, "", "x", false}, {"x_plus", 45, 2, 0, 1, "x", "", false},
+    {"plus_literal", 45, 2, 0, 1, "", "literal", false}, {"literal_plus", 45, 2, 0, 1, "literal", "", false},
     {"elements", 48, 0, 0, 0, "", "", false}, {"settings", 49, 0, 0, 0, "", "", false},
     {"set", 50, 1, X, 0, "", "", false}, {"set_text", 50, 1, X, 0, "text", "", true},
     {"block", 64, 1, 0, 0, "", "", false}, {"evaluate", 65, 0, 0, 0, "", "", false},
@@ -88,6 +91,9 @@ static const struct told {
     {"global u16 61 call x", 7, 61}, {"global u16 61 f_of x", 7, 122},
     {"global u16 61 at_x x", 7, 0}, {"global u16 61 x_at x", 7, 60},
     {"global u16 61 plus_x x", 7, 0}, {"global u16 61 x_plus x", 7, 0},
+    {"global u16 61 plus_literal literal", 7, 62}, {"global u16 61 literal_plus literal", 7, 62},
+    {"function void 59 loop evaluate literal_plus literal", 8, 2},
+    {"global u16 call f 2015 literal", 7, 2017}, {"global u16 elements 57 not call f 2000 literal", 7, 2060},
     /* Long lists at the bottom of deep records, or above them. */
     {"global struct 1604 member field 29 nested pointer void", 1672, 0},
     {"global 29 nested struct 1606 member", 1672, 0},
@@ -109,7 +115,7 @@ static const struct told {
     {"function void 29 loop local u16 elements 27 not sizeof struct 1607 member", 1616, 1},
 };
 
-static uint8_t input[MOST_BYTES], output[MOST_BYTES];
+static uint8_t input[MOST_BYTES], output[MOST_BYTES], text[DELTA_NULL_LONGEST_TEXT];
 static uint32_t rows[ROW_WORDS], errors[ERROR_WORDS], work[WORK_WORDS];
 
 /* The module at hand: its words and its bytes; the records that are open, and the deepest level there was. */
@@ -294,6 +300,30 @@ static void *check(void *given)
     return NULL;
 }
 
+/* What messages print for the type String. */
+static const uint8_t string[] = {'S', 't', 'r', 'i', 'n', 'g'};
+
+/* A call for messages of the module at hand: how many rows and errors count, the bytes lent for the text, the answer, and the stack that was
+ * taken. */
+struct telling {
+    uint32_t rows;
+    size_t errors, room;
+    uint32_t refused;
+    size_t length, place;
+    struct taken taken;
+};
+
+static void *tell(void *given)
+{
+    struct telling *telling = given;
+    catch_faults();
+    telling->refused = delta_null_messages(
+        input, length, rows, ROW_WORDS, telling->rows, errors, ERROR_WORDS, telling->errors, string, sizeof string, work, WORK_WORDS,
+        text, telling->room, &telling->length, &telling->place);
+    telling->taken = take_stock(__builtin_frame_address(0));
+    return NULL;
+}
+
 /* A question: the rows, the answer, and the stack that was taken. */
 struct question {
     uint32_t count, source, target, refused, answer;
@@ -374,27 +404,152 @@ static struct call expect(size_t row_words, size_t error_words, uint32_t refused
     return call;
 }
 
-/* Checks a module with roomy loans, then with a word too few for its rows, and for its errors. */
+static size_t lines_in_text(size_t bytes)
+{
+    size_t lines = 0;
+    for (size_t i = 0; i < bytes; i++) {
+        lines += text[i] == '\n';
+    }
+    return lines;
+}
+
+/* Calls for the messages of the rows and errors at hand, and holds the answer, and what is left, to what is expected: a line for each
+ * error, no more words and bytes than promised; and with a byte too few the length. */
+static struct telling expect_messages(uint32_t row_count, size_t error_count)
+{
+    struct telling roomy = {.rows = row_count, .errors = error_count, .room = sizeof text};
+    memset(work, FILL, sizeof work);
+    memset(text, FILL, sizeof text);
+    on_thread(tell, &roomy);
+    if (roomy.refused != DELTA_NULL_ACCEPTED || roomy.place != 0 || lines_in_text(roomy.length) != error_count) {
+        fprintf(stderr, "stack: messages %u, length %zu, place %zu\n", roomy.refused, roomy.length, roomy.place);
+        stop("other messages are expected");
+    }
+    if (!is_left(text, roomy.length, false, sizeof text) || !is_left(work, sizeof work[0] * row_count, false, sizeof work)) {
+        stop("messages do not leave something lent as promised");
+    }
+    if (roomy.length > 0) {
+        struct telling short_of = roomy;
+        short_of.room = roomy.length - 1;
+        memset(text, FILL, sizeof text);
+        on_thread(tell, &short_of);
+        if (short_of.refused != DELTA_NULL_TEXT_TOO_LONG || short_of.length != 0 || short_of.place != roomy.length
+            || !is_left(text, 0, false, sizeof text)) {
+            stop("messages are to be refused with their length");
+        }
+    }
+    return roomy;
+}
+
+/* Checks a module with roomy loans, asks for its messages, then checks it with a word too few for its rows, and for its errors. */
 static void measure(const struct told *told)
 {
     items = told->items;
     snprintf(needs_more, sizeof needs_more, "stack: %s: more than %zu bytes are needed\n", items, stack_bytes);
     make_module();
     struct call roomy = expect(ROW_WORDS, ERROR_WORDS, DELTA_NULL_ACCEPTED, told->rows, told->errors);
+    struct telling messages = expect_messages(told->rows, told->errors);
     expect(DELTA_NULL_ROW_WORDS * told->rows - 1, ERROR_WORDS, DELTA_NULL_TOO_MANY_ROWS, 0, 0);
     if (told->errors > 0) {
         expect(ROW_WORDS, DELTA_NULL_ERROR_WORDS * told->errors - 1, DELTA_NULL_TOO_MANY_ERRORS, 0, 0);
     }
-    printf("%-78s %5zu bytes %2u levels: stack %6zu, in all %6zu\n", items, length, deepest, roomy.taken.below, roomy.taken.whole);
+    printf("%-78s %5zu bytes %2u levels: stack %6zu, in all %6zu, messages %6zu, %6zu\n", items, length, deepest,
+        roomy.taken.below, roomy.taken.whole, messages.taken.below, messages.taken.whole);
+}
+
+/* Puts a row behind the others; its number. */
+static uint32_t add_row(uint32_t *count, uint32_t kind, uint32_t first, uint32_t second, uint32_t name, uint32_t size)
+{
+    const uint32_t row[DELTA_NULL_ROW_WORDS] = {kind, first, second, name, size};
+    memcpy(rows + DELTA_NULL_ROW_WORDS * *count, row, sizeof row);
+    return ++*count;
+}
+
+/* So many pointers, each to the one before and the first to *u16: 2,904 bytes. */
+static uint32_t add_pointers(uint32_t *count)
+{
+    uint32_t last = 6;
+    for (int i = 0; i < 2900; i++) {
+        last = add_row(count, 6, last, 0, 0, 1);
+    }
+    return last;
+}
+
+/* So many structs, each of the one before twice, so that of two parts neither is shorter: 1,015,789 bytes. */
+static uint32_t add_structs(uint32_t *count)
+{
+    uint32_t last = add_row(count, 7, 4, 1234567, 0, DELTA_NULL_SIZE_TOO_LARGE);
+    for (int i = 0; i < 15; i++) {
+        uint32_t rest = add_row(count, 12, last, 0, X, DELTA_NULL_SIZE_TOO_LARGE);
+        uint32_t fields = add_row(count, 12, last, rest, F, DELTA_NULL_SIZE_TOO_LARGE);
+        last = add_row(count, 8, fields, 0, 0, DELTA_NULL_SIZE_TOO_LARGE);
+    }
+    return last;
+}
+
+/* So many functions that take the one before and return it: 983,032 bytes. */
+static uint32_t add_functions(uint32_t *count)
+{
+    uint32_t last = add_row(count, 7, 2, 1, 0, 0);
+    for (int i = 0; i < 16; i++) {
+        last = add_row(count, 9, last, add_row(count, 13, last, 0, 0, 0), 0, 1);
+    }
+    return last;
+}
+
+/* As many arrays as there is room for, none of which is printed. */
+static uint32_t add_arrays(uint32_t *count)
+{
+    for (uint32_t size = 0; *count < ROW_WORDS / DELTA_NULL_ROW_WORDS; size++) {
+        add_row(count, 7, 4, size, 0, size); /* u16 is one word */
+    }
+    return 4;
+}
+
+/* The kind of the errors that print a row here, and the bytes around it in each message. */
+enum { INDEX_ERROR = 14, AROUND = sizeof "cannot use `` to index an array\n" - 1 };
+
+/* Tables of rows, by what is added to the seven; errors that print the last row added; the bytes of the text. */
+static const struct table {
+    const char *what;
+    uint32_t (*add)(uint32_t *count);
+    size_t errors, bytes;
+} tables[] = {
+    {"messages of 2900 pointers", add_pointers, 1, 2904 + AROUND},
+    {"messages of 350 times 2900 pointers", add_pointers, 350, 350 * (2904 + AROUND)},
+    {"messages of 15 structs of two", add_structs, 1, 1015789 + AROUND},
+    {"messages of 16 functions of two", add_functions, 1, 983032 + AROUND},
+    {"messages of 5600 rows and 4000 errors", add_arrays, 4000, 4000 * (3 + AROUND)},
+};
+
+/* Asks for messages over the rows of a table and a module of 64 levels of literals. */
+static void measure_table(const struct table *table)
+{
+    struct call fixed = {.row_words = ROW_WORDS, .error_words = ERROR_WORDS};
+    uint32_t count = 7;
+    snprintf(needs_more, sizeof needs_more, "stack: %s: more than %zu bytes are needed\n", table->what, stack_bytes);
+    items = "global u16 61 plus_literal literal";
+    make_module();
+    run_call(&fixed);
+    uint32_t printed = table->add(&count);
+    items = table->what;
+    for (size_t i = 0; i < table->errors; i++) {
+        const uint32_t error[DELTA_NULL_ERROR_WORDS] = {INDEX_ERROR, 0, 0, 0, printed, 0, 0, 0};
+        memcpy(errors + DELTA_NULL_ERROR_WORDS * i, error, sizeof error);
+    }
+    struct telling messages = expect_messages(count, table->errors);
+    if (messages.length != table->bytes) {
+        fprintf(stderr, "stack: %zu bytes of text\n", messages.length);
+        stop("another text is expected");
+    }
+    printf("%s: %zu bytes of text: stack %6zu, in all %6zu\n", table->what, messages.length, messages.taken.below, messages.taken.whole);
 }
 
 /* Adds so many distinct aliases over a row of one word behind the others; the last of them. */
 static uint32_t add_aliases(uint32_t *count, uint32_t of, uint32_t aliases)
 {
     while (aliases-- > 0) {
-        const uint32_t row[DELTA_NULL_ROW_WORDS] = {11, of, 0, 0, 1};
-        memcpy(rows + DELTA_NULL_ROW_WORDS * *count, row, sizeof row);
-        of = ++*count;
+        of = add_row(count, 11, of, 0, 0, 1);
     }
     return of;
 }
@@ -431,6 +586,9 @@ int main(int argc, char **argv)
     setvbuf(stdout, NULL, _IOLBF, 0);
     for (size_t i = 0; i < sizeof modules / sizeof modules[0]; i++) {
         measure(&modules[i]);
+    }
+    for (size_t i = 0; i < sizeof tables / sizeof tables[0]; i++) {
+        measure_table(&tables[i]);
     }
     measure_cast();
     printf("stack: at most %zu bytes of %zu\n", most_taken, stack_bytes);

@@ -5,12 +5,23 @@ use crate::{
     rows::{Rows, kind},
 };
 
-/// One error: kind, place and three operands.
+/// How many words an error has.
+pub const ERROR_WIDTH: usize = 8;
+
+/// How many kinds of errors there are; they are numbered from 1.
+pub const ERROR_KINDS: u32 = 29;
+
+/// The kind of the errors that literals are.
+pub const LITERAL_ERROR: u32 = 23;
+
+/// One error: kind, place in the source text, three operands, place in the file.
 #[derive(Clone, Copy, Debug, PartialEq, Eq)]
 pub struct Error {
     pub kind: u32,
     pub at: Place,
     pub operands: [Operand; 3],
+    /// The first byte of the literal's record, from the start of the file; 0 of the other kinds (document 02, paper 1).
+    pub place: u32,
 }
 
 /// An operand of an error.
@@ -79,7 +90,7 @@ impl Answer {
                     Operand::Row(row) => line += of(row),
                 }
             }
-            lines.push(line);
+            lines.push(format!("{line} {}", error.place));
         }
         lines.join("\n") + "\n"
     }
@@ -105,6 +116,14 @@ impl Answer {
 }
 
 impl Error {
+    /// The error's words.
+    pub fn words(&self) -> [u32; ERROR_WIDTH] {
+        let [a, b, c] = self.operands.map(|operand| match operand {
+            Operand::Number(word) | Operand::Row(word) => word,
+        });
+        [self.kind, u32::from(self.at.file), self.at.line, self.at.column, a, b, c, self.place]
+    }
+
     fn place_text(&self) -> String {
         format!("{} {} {} {}", self.kind, self.at.file, self.at.line, self.at.column)
     }

@@ -8,7 +8,7 @@
 use std::collections::HashMap;
 
 use crate::{
-    answer::{Answer, Error, Operand},
+    answer::{Answer, Error, LITERAL_ERROR, Operand},
     decode::{Decoder, location},
     fallible::Fallible,
     ir,
@@ -26,10 +26,43 @@ enum Said<'t> {
     Type(&'t Type),
     /// A type printed for programmers.
     Debug(&'t Type),
+    /// The same of a type that is no operand of the error record.
+    BuiltIn(&'t Type),
     /// An operator's number and text.
     Operator(u32, String),
-    /// A text that is no operand of the error record.
-    Text(String),
+    /// The digits of a literal, its base and the place of its record.
+    Literal(&'t str, u32, usize),
+}
+
+impl Said<'_> {
+    /// As `Display` prints it.
+    fn shown(&self, decoder: &Decoder) -> String {
+        match self {
+            Said::Name(number) => decoder.name(*number),
+            Said::Count(number) => number.to_string(),
+            Said::Type(ty) | Said::Debug(ty) | Said::BuiltIn(ty) => ty.to_string(),
+            Said::Operator(_, text) => text.clone(),
+            Said::Literal(digits, ..) => (*digits).to_owned(),
+        }
+    }
+
+    /// As the reference's message prints it.
+    fn printed(&self, decoder: &Decoder) -> String {
+        match self {
+            Said::Debug(ty) | Said::BuiltIn(ty) => format!("{ty:?}"),
+            other => other.shown(decoder),
+        }
+    }
+
+    /// As an operand of the error record, if it is one.
+    fn kept(&self) -> Option<Kept> {
+        match self {
+            Said::Name(number) | Said::Operator(number, _) => Some(Kept::Number(*number)),
+            Said::Count(number) => Some(Kept::Number(*number as u32)),
+            Said::Type(ty) | Said::Debug(ty) => Some(Kept::Type((*ty).clone())),
+            Said::BuiltIn(_) | Said::Literal(..) => None,
+        }
+    }
 }
 
 /// An operand of an error that is attributed.
@@ -38,12 +71,30 @@ enum Kept {
     Type(Type),
 }
 
+/// An error that is attributed, its operands not in rows yet.
+struct Found {
+    kind: u32,
+    at: Place,
+    operands: Vec<Kept>,
+    /// That of a literal's record.
+    place: u32,
+    message: String,
+}
+
+/// What the reference says of a module.
+#[derive(Clone, Debug)]
+pub struct Spoken {
+    pub answer: Answer,
+    /// The text of each error in order: its description, but that types of kind 3 are there as `Display` prints them (document 02, paper 1).
+    pub messages: Vec<String>,
+}
+
 struct Attribution<'a> {
     decoder: &'a Decoder,
     numbers: HashMap<&'a str, u32>,
     errors: &'a [TypeError],
-    /// Errors attributed so far, without their operands in rows.
-    found: Vec<(u32, Place, Vec<Kept>)>,
+    /// Errors attributed so far.
+    found: Vec<Found>,
     rows: Rows,
     slots: Vec<(usize, u32)>,
 }
@@ -54,12 +105,12 @@ fn unlike<T>(record: &Record) -> Typed<T> {
     Err(format!("the typed tree is not like the record at {}", record.place))
 }
 
-/// The answer that the reference's output says.
+/// What the reference's output says.
 pub fn attribute(
     module: &Module,
     decoder: &Decoder,
     checked: Fallible<node::Module<Type, Type>, TypeError>,
-) -> Result<Answer, String> {
+) -> Result<Spoken, String> {
     let errors = checked.errors().to_vec();
     let typed = checked.ignore_errors();
     let numbers = decoder.names.iter().enumerate().map(|(i, name)| (name.as_str(), i as u32)).collect();
@@ -75,8 +126,8 @@ pub fn attribute(
     reading.finish()
 }
 
-/// Whether the reference raises an error of such operands. Types may be printed alike, as a pointer and an alias that is named `*u16`, of
-/// which one is in order and the other is not.
+/// Whether the reference raises an error of such operands. Types may be printed alike, as a pointer and an alias that is named `*u16`, and
+/// so may literals of two bases, of which one is in order and the other is not.
 fn is_raised(kind: u32, said: &[Said]) -> bool {
     match (kind, said) {
         (8, [Said::Type(source), Said::Type(target)]) => !types_are_assignable(target, source),
@@ -85,6 +136,7 @@ fn is_raised(kind: u32, said: &[Said]) -> bool {
         (15, [Said::Type(from), Said::Type(to)]) => !from.is_castable_to(to),
         (16, [Said::Type(ty)]) => !matches!(ty, Type::Pointer(_)),
         (17, [Said::Type(ty)]) => !matches!(ty.desugar(), Type::Struct(_)),
+        (LITERAL_ERROR, [Said::Literal(digits, base, _)]) => u16::from_str_radix(digits, *base).is_err(),
         (24, [_, Said::Type(Type::Pointer(_)), Said::Type(Type::Direct(right))]) => !right.is_integral(),
         _ => true,
     }
@@ -98,57 +150,49 @@ impl Attribution<'_> {
         if !messages::may_say(text, kind) || *place != location(at) {
             return false;
         }
-        let operands: Vec<String> = said
-            .iter()
-            .map(|said| match said {
-                Said::Name(number) => self.decoder.name(*number),
-                Said::Count(number) => number.to_string(),
-                Said::Type(ty) => ty.to_string(),
-                Said::Debug(ty) => format!("{ty:?}"),
-                Said::Operator(_, text) | Said::Text(text) => text.clone(),
-            })
-            .collect();
-        if !messages::says(text, kind, &operands) || !is_raised(kind, said) {
+        let printed: Vec<String> = said.iter().map(|said| said.printed(self.decoder)).collect();
+        if messages::filled(kind, &printed) != *text || !is_raised(kind, said) {
             return false;
         }
-        let mut kept: Vec<Kept> = said
-            .iter()
-            .filter_map(|said| match said {
-                Said::Name(number) | Said::Operator(number, _) => Some(Kept::Number(*number)),
-                Said::Count(number) => Some(Kept::Number(*number as u32)),
-                Said::Type(ty) | Said::Debug(ty) => Some(Kept::Type((*ty).clone())),
-                Said::Text(_) => None,
-            })
-            .collect();
+        let mut operands: Vec<Kept> = said.iter().filter_map(Said::kept).collect();
         if kind == 8 {
             // The message says the source first, the record the target.
-            kept.reverse();
+            operands.reverse();
         }
-        self.found.push((kind, at, kept));
+        let place = match said {
+            [Said::Literal(.., place)] => *place as u32,
+            _ => 0,
+        };
+        let message = match kind {
+            3 => messages::filled(kind, &said.iter().map(|said| said.shown(self.decoder)).collect::<Vec<_>>()),
+            _ => text.to_owned(),
+        };
+        self.found.push(Found { kind, at, operands, place, message });
         true
     }
 
-    /// The answer, once the whole tree is walked.
-    fn finish(mut self) -> Result<Answer, String> {
+    /// What is said, once the whole tree is walked.
+    fn finish(mut self) -> Result<Spoken, String> {
         if let Some(error) = self.errors.get(self.found.len()) {
             return Err(format!("error {} fits nowhere: {error}", self.found.len() + 1));
         }
         let demanded = self.rows.count();
-        let mut errors = vec![];
-        for (kind, at, kept) in std::mem::take(&mut self.found) {
+        let (mut errors, mut messages) = (vec![], vec![]);
+        for found in std::mem::take(&mut self.found) {
             let mut operands = [Operand::Number(0); 3];
-            for (operand, kept) in operands.iter_mut().zip(kept) {
+            for (operand, kept) in operands.iter_mut().zip(found.operands) {
                 *operand = match kept {
                     Kept::Number(number) => Operand::Number(number),
                     Kept::Type(ty) => Operand::Row(self.row(&ty)?),
                 };
             }
-            errors.push(Error { kind, at, operands });
+            errors.push(Error { kind: found.kind, at: found.at, operands, place: found.place });
+            messages.push(found.message);
         }
         if self.rows.count() > demanded {
             return Err("an error's type is not among the demanded rows".to_owned());
         }
-        Ok(Answer { rows: self.rows, slots: self.slots, errors })
+        Ok(Spoken { answer: Answer { rows: self.rows, slots: self.slots, errors }, messages })
     }
 
     /// The row of one of the reference's types, added with its parts and cells if it is not there yet.
@@ -257,7 +301,7 @@ impl Attribution<'_> {
             if built_in == Type::Unknown {
                 self.may(2, item.at, &[said]);
             } else {
-                self.may(3, item.at, &[said, Said::Text(format!("{built_in:?}")), Said::Debug(ty)]);
+                self.may(3, item.at, &[said, Said::BuiltIn(&built_in), Said::Debug(ty)]);
             }
             false
         } else if duplicate {

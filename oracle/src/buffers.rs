@@ -1,8 +1,9 @@
 //! Buffers that a checker filled, as an answer; and whether rows keep the rules.
 
 use crate::{
-    answer::{Answer, Error, Operand},
+    answer::{Answer, ERROR_WIDTH, Error, Operand},
     layout::{self, Place, Record},
+    messages::row_operands,
     rows::{ROW_WIDTH, Row, Rows, STRING_NAME, kind},
 };
 
@@ -56,17 +57,6 @@ fn is_sound(rows: &Rows, row: Row) -> bool {
     }
 }
 
-/// Which operands of an error of the kind are rows.
-fn row_operands(kind: u32) -> [bool; 3] {
-    match kind {
-        3 => [false, true, false],
-        8 | 15 => [true, true, false],
-        9 | 13 | 14 | 16..=22 | 26 | 28 => [true, false, false],
-        12 | 24 => [false, true, true],
-        _ => [false; 3],
-    }
-}
-
 /// What a checker said that was given `input` and left `output`, row words and error words in use.
 pub fn answer(input: &[u8], output: &[u8], row_words: &[u32], error_words: &[u32]) -> Result<Answer, String> {
     let module = layout::read(input).map_err(|refusal| format!("the input is turned back: {refusal:?}"))?;
@@ -93,18 +83,18 @@ pub fn answer(input: &[u8], output: &[u8], row_words: &[u32], error_words: &[u32
     if let Some(place) = cleared.iter().zip(input).position(|(a, b)| a != b) {
         return Err(format!("the output differs outside the slots, at {place}"));
     }
-    if !error_words.len().is_multiple_of(7) {
+    if !error_words.len().is_multiple_of(ERROR_WIDTH) {
         return Err("not a whole number of errors".to_owned());
     }
     let mut errors = vec![];
-    for words in error_words.chunks(7) {
+    for words in error_words.chunks(ERROR_WIDTH) {
         let at = Place { file: u16::try_from(words[1]).map_err(|e| e.to_string())?, line: words[2], column: words[3] };
         let mut operands = [Operand::Number(0); 3];
         for (i, is_row) in row_operands(words[0]).into_iter().enumerate() {
             let word = words[4 + i];
             operands[i] = if is_row { Operand::Row(ty(word)?) } else { Operand::Number(word) };
         }
-        errors.push(Error { kind: words[0], at, operands });
+        errors.push(Error { kind: words[0], at, operands, place: words[7] });
     }
     Ok(Answer { rows, slots: filled, errors })
 }

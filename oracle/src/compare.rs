@@ -1,9 +1,13 @@
-//! The product against the oracle: refusals, rows, slots, errors and every lent word, on modules by the thousand.
+//! The product against the oracle: refusals, rows, slots, errors, messages and every lent word, on modules by the thousand.
+
+mod messages;
 
 use std::{fmt::Write, fs, path::Path, time::Duration};
 
+use self::messages::Messages;
 use crate::{
-    answer::{Answer, refusal_text},
+    answer::{Answer, ERROR_WIDTH, Error, refusal_text},
+    attribute::Spoken,
     buffers, damage, generate, hand,
     layout::{self, MOST_BYTES, Module, Refusal},
     model, orders,
@@ -14,6 +18,7 @@ use crate::{
     rows::ROW_WIDTH,
     shrink,
     stats::Stats,
+    tell,
     tree::Random,
 };
 
@@ -29,6 +34,8 @@ pub struct Truth {
     pub words_asked: usize,
     /// The casts in the module, by the model.
     pub casts: Casts,
+    /// The reference's texts of the errors, where it spoke.
+    pub messages: Option<Vec<String>>,
 }
 
 /// What the reference and the model say of a file. Where both speak they must agree.
@@ -36,22 +43,34 @@ pub fn truth(bytes: &[u8]) -> Result<Truth, String> {
     let module = match layout::read(bytes) {
         Err(refusal) => {
             let casts = Casts::default();
-            return Ok(Truth { outcome: Err(refusal), silence: None, words_asked: 0, casts });
+            return Ok(Truth { outcome: Err(refusal), silence: None, words_asked: 0, casts, messages: None });
         }
         Ok(module) => module,
     };
     let outcome = model::check(&module);
     let spoken = if outcome.work > MOST_WORK { Err(Silence::TooLarge) } else { reference::check(&module, LIMIT) };
-    let silence = match spoken {
-        Ok(answer) => match first_difference("reference", &answer.text(), "model", &outcome.answer.text()) {
+    let (silence, messages) = match spoken {
+        Ok(spoken) => match difference(&module, &spoken, &outcome.answer) {
             Some(line) => return Err(line),
-            None => None,
+            None => (None, Some(spoken.messages)),
         },
         Err(Silence::Broken(why)) => return Err(format!("the reference is broken: {why}")),
-        Err(silence) => Some(silence),
+        Err(silence) => (Some(silence), None),
     };
     let words_asked = relate::ask_words(&outcome.answer.rows)?;
-    Ok(Truth { outcome: Ok((module, outcome.answer)), silence, words_asked, casts: outcome.casts })
+    Ok(Truth { outcome: Ok((module, outcome.answer)), silence, words_asked, casts: outcome.casts, messages })
+}
+
+/// In what the reference and the model differ: the first line of their answers, or of their messages.
+pub fn difference(module: &Module, spoken: &Spoken, model: &Answer) -> Option<String> {
+    first_difference("reference", &spoken.answer.text(), "model", &model.text()).or_else(|| {
+        let errors: Vec<[u32; ERROR_WIDTH]> = model.errors.iter().map(Error::words).collect();
+        let own = tell::lines(module, &model.rows, &errors);
+        let lines = spoken.messages.iter().zip(own);
+        let mut differ = lines.filter(|(message, own)| format!("{message}\n").as_bytes() != own);
+        let (message, own) = differ.next()?;
+        Some(format!("message: reference {message:?}, own {:?}", String::from_utf8_lossy(&own)))
+    })
 }
 
 /// The first line in which two texts differ.
@@ -79,7 +98,7 @@ impl Truth {
             5
         } else if loans.rows / ROW_WIDTH < answer.rows.count() {
             6
-        } else if loans.errors / 7 < answer.errors.len() {
+        } else if loans.errors / ERROR_WIDTH < answer.errors.len() {
             7
         } else {
             return None;
@@ -102,7 +121,7 @@ fn judge(bytes: &[u8], truth: &Truth, loans: Loans, said: &Said) -> Result<Optio
     let (used_output, used_rows, used_errors) = match (&truth.outcome, refusal) {
         (_, Some(refusal)) if refusal.number <= 5 => (0, 0, 0),
         (_, Some(_)) => (bytes.len(), loans.rows, loans.errors),
-        (Ok((_, answer)), None) => (bytes.len(), ROW_WIDTH * answer.rows.count(), 7 * answer.errors.len()),
+        (Ok((_, answer)), None) => (bytes.len(), ROW_WIDTH * answer.rows.count(), ERROR_WIDTH * answer.errors.len()),
         (Err(_), None) => unreachable!("a refused module has a refusal"),
     };
     let expected = match (&truth.outcome, refusal) {
@@ -152,7 +171,7 @@ fn some_loans(bytes: &[u8], truth: &Truth, random: &mut Random) -> Loans {
     Loans {
         output: about(bytes.len(), 4, 65_600, 3),
         rows: about(ROW_WIDTH * answer.rows.count(), ROW_WIDTH, REPORT.rows, 12),
-        errors: about(7 * answer.errors.len(), 7, REPORT.errors, 20),
+        errors: about(ERROR_WIDTH * answer.errors.len(), ERROR_WIDTH, REPORT.errors, 20),
         work: about(4 * module.names.len(), 4, REPORT.work, 3),
     }
 }
@@ -174,6 +193,7 @@ struct Compare<'a> {
     /// For the words of how many types the reference was asked.
     words_asked: usize,
     casts: Casts,
+    messages: Messages,
     orders: usize,
     differences: usize,
 }
@@ -192,10 +212,16 @@ impl Compare<'_> {
                 (loans, judged)
             }
         };
-        judged.unwrap_or_else(|why| {
-            self.differ(bytes, label, lending, &format!("{why} (lent {loans:?})"));
-            None
-        })
+        match judged {
+            Ok((answer, messages)) => {
+                self.messages.add(&messages);
+                answer
+            }
+            Err(why) => {
+                self.differ(bytes, label, lending, &format!("{why} (lent {loans:?})"));
+                None
+            }
+        }
     }
 
     fn count(&mut self, bytes: &[u8], truth: &Truth, loans: Loans) {
@@ -277,14 +303,17 @@ impl Compare<'_> {
         let [undecodable, large, late] = self.silent;
         let _ = writeln!(text, "the model alone: no UTF-8 {undecodable}, too large {large}, timeout {late}");
         text += &self.casts.text();
+        if self.product.tells() {
+            text += &self.messages.text();
+        }
         text += &self.stats.missing();
         let _ = writeln!(text, "differences {}", self.differences);
         text
     }
 }
 
-/// What is true of a file, the loans, and how the product's answer compares.
-type Judged = (Truth, Loans, Result<Option<Answer>, String>);
+/// What is true of a file, the loans, and how the product's answer and its messages compare.
+type Judged = (Truth, Loans, Result<(Option<Answer>, Messages), String>);
 
 /// How much is lent.
 #[derive(Clone, Copy)]
@@ -300,7 +329,18 @@ fn asked(product: &mut Product, bytes: &[u8], lending: Lending) -> Result<Judged
         Lending::Fixed(loans) => loans,
         Lending::Drawn(seed) => some_loans(bytes, &truth, &mut Random::new(seed)),
     };
-    let judged = product.check(bytes, loans).and_then(|said| judge(bytes, &truth, loans, &said));
+    let seed = match lending {
+        Lending::Fixed(_) => bytes.iter().map(|&byte| u64::from(byte)).sum(),
+        Lending::Drawn(seed) => seed,
+    };
+    let judged = product.check(bytes, loans).and_then(|said| {
+        let answer = judge(bytes, &truth, loans, &said)?;
+        let messages = match &answer {
+            Some(_) if product.tells() => messages::compare(product, bytes, &truth, &said, seed)?,
+            _ => Messages::default(),
+        };
+        Ok((answer, messages))
+    });
     Ok((truth, loans, judged))
 }
 
@@ -327,6 +367,7 @@ pub fn compare(seed: u64, count: usize, program: &Path, folder: &Path) -> Result
         no_bytes: 0,
         words_asked: 0,
         casts: Casts::default(),
+        messages: Messages::default(),
         orders: 0,
         differences: 0,
     };

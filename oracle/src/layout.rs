@@ -7,6 +7,8 @@ pub const MOST_BYTES: usize = 65_536;
 pub const MOST_DEPTH: usize = 64;
 /// The bytes of a record before its fields.
 pub const HEAD: usize = 16;
+/// The kind of the records of integer literals.
+pub const LITERAL: u16 = 33;
 
 /// Why a module is turned back: the number of document 01's table and the place returned with it.
 #[derive(Clone, Copy, Debug, PartialEq, Eq)]

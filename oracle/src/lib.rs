@@ -18,16 +18,20 @@ macro_rules! hashset {
 include!(concat!(env!("OUT_DIR"), "/modules.rs"));
 
 pub mod answer;
+pub mod ask;
 pub mod attribute;
 pub mod buffers;
 pub mod compare;
 pub mod damage;
 pub mod decode;
+pub mod display;
+pub mod errors;
 pub mod footprint;
 pub mod generate;
 pub mod hand;
 pub mod layout;
 pub mod literals;
+pub mod message_cases;
 pub mod messages;
 pub mod model;
 pub mod orders;
@@ -42,4 +46,5 @@ pub mod shrink;
 pub mod shuffle;
 pub mod stats;
 pub mod tables;
+pub mod tell;
 pub mod tree;

@@ -3,27 +3,31 @@
 use std::{
     collections::BTreeMap,
     env, fs,
+    io::Write,
     path::{Path, PathBuf},
     process::ExitCode,
     time::Duration,
 };
 
 use oracle::{
-    answer::{Answer, refusal_text},
+    answer::{Answer, Error, refusal_text},
+    attribute::Spoken,
     buffers,
-    compare::{self, first_difference},
+    compare::{self, difference},
     damage, generate,
-    layout::{self, Module},
-    literals, model,
+    layout::{self, Module, Refusal},
+    literals, message_cases, model,
     reference::{self, MOST_WORK, Silence},
     relate, relations, replay, shuffle,
     stats::Stats,
     tables,
+    tell::Question,
 };
 
 const USAGE: &str = "usage:
   oracle check [--reference | --model] FILES..
   oracle report FILES..
+  oracle messages FILES..
   oracle selfcheck FILES..
   oracle generate SEED COUNT DIR [--class NAME]
   oracle damage SEED COUNT DIR FILES..
@@ -34,7 +38,7 @@ const USAGE: &str = "usage:
   oracle relate ROWS..
   oracle compare SEED COUNT PRODUCT DIR
   oracle relations SEED COUNT PRODUCT DIR
-  oracle replay ACCEPTED REFUSED DATA NAMES
+  oracle replay ACCEPTED REFUSED MESSAGES DATA NAMES
   oracle literals DIR
 A folder among FILES stands for the files in it.";
 
@@ -55,6 +59,7 @@ fn main() -> ExitCode {
         ["check", "--model", ref files @ ..] if !files.is_empty() => check(files, Source::Model),
         ["check", ref files @ ..] if !files.is_empty() => check(files, Source::Either),
         ["report", ref files @ ..] if !files.is_empty() => report(files),
+        ["messages", ref files @ ..] if !files.is_empty() => messages(files),
         ["selfcheck", ref files @ ..] if !files.is_empty() => selfcheck(files),
         ["generate", seed, count, folder] => generated(seed, count, folder, "mixed"),
         ["generate", seed, count, folder, "--class", class] => generated(seed, count, folder, class),
@@ -66,7 +71,7 @@ fn main() -> ExitCode {
         ["relate", ref files @ ..] if !files.is_empty() => related(files),
         ["compare", seed, count, program, folder] => compared(seed, count, program, folder),
         ["relations", seed, count, program, folder] => compared_relations(seed, count, program, folder),
-        ["replay", accepted, refused, data, names] => replayed(accepted, refused, data, names),
+        ["replay", accepted, refused, told, data, names] => replayed(accepted, refused, told, data, names),
         ["literals", folder] => literal_cases(folder),
         _ => Err(USAGE.to_owned()),
     };
@@ -105,8 +110,8 @@ fn expand(files: &[&str]) -> Result<Vec<PathBuf>, String> {
     Ok(all)
 }
 
-/// The reference's answer, unless the model foresees that it would take too long.
-fn reference_answer(module: &Module, work: u64) -> Result<Answer, Silence> {
+/// What the reference says, unless the model foresees that it would take too long.
+fn spoken(module: &Module, work: u64) -> Result<Spoken, Silence> {
     if work > MOST_WORK { Err(Silence::TooLarge) } else { reference::check(module, LIMIT) }
 }
 
@@ -129,8 +134,8 @@ fn said(path: &Path, source: Source, text: impl Fn(&Answer) -> String) -> Result
     if source == Source::Model {
         return Ok(text(&outcome.answer));
     }
-    match reference_answer(&module, outcome.work) {
-        Ok(answer) => Ok(text(&answer)),
+    match spoken(&module, outcome.work) {
+        Ok(spoken) => Ok(text(&spoken.answer)),
         Err(Silence::Broken(why)) => Err(format!("{}: broken: {why}", path.display())),
         Err(silence) if source == Source::Reference => Ok(format!("{silence}\n")),
         Err(silence) => {
@@ -160,6 +165,36 @@ fn report(files: &[&str]) -> Done {
     for_each(files, |path| said(path, Source::Either, |answer| answer.report(LENT_ROWS, LENT_ERRORS)))
 }
 
+/// What the program `messages` has to print of a file.
+fn messages_of(bytes: &[u8]) -> Result<Vec<u8>, String> {
+    let answer = match compare::truth(bytes)?.outcome {
+        Ok((_, answer)) => answer,
+        Err(refusal) => return Ok(refusal_text(refusal).into_bytes()),
+    };
+    let counts = (answer.rows.count(), answer.errors.len());
+    if counts.0 > LENT_ROWS || counts.1 > LENT_ERRORS {
+        return Ok(answer.report(LENT_ROWS, LENT_ERRORS).into_bytes());
+    }
+    let errors: Vec<u32> = answer.errors.iter().flat_map(Error::words).collect();
+    let told = Question::new(bytes, &answer.rows.row_words(), counts.0, &errors, counts.1).due().told;
+    match told.number {
+        0 => Ok(told.text),
+        number => Ok(refusal_text(Refusal { number, place: told.place }).into_bytes()),
+    }
+}
+
+fn messages(files: &[&str]) -> Done {
+    without_panic_messages();
+    let mut out = std::io::stdout().lock();
+    let files = expand(files)?;
+    for path in &files {
+        let text = messages_of(&read(path)?).map_err(|why| format!("{}: {why}", path.display()))?;
+        let head = if files.len() > 1 { format!("file {}\n", path.display()) } else { String::new() };
+        out.write_all(&[head.as_bytes(), &text].concat()).map_err(|e| e.to_string())?;
+    }
+    Ok(ExitCode::SUCCESS)
+}
+
 fn selfcheck(files: &[&str]) -> Done {
     let mut counts: BTreeMap<String, usize> = BTreeMap::new();
     let mut differ = 0;
@@ -168,8 +203,8 @@ fn selfcheck(files: &[&str]) -> Done {
             Err(_) => "refused".to_owned(),
             Ok(module) => {
                 let outcome = model::check(&module);
-                match reference_answer(&module, outcome.work) {
-                    Ok(answer) => match difference(&answer, &outcome.answer) {
+                match spoken(&module, outcome.work) {
+                    Ok(spoken) => match difference(&module, &spoken, &outcome.answer) {
                         None => "agree".to_owned(),
                         Some(line) => {
                             println!("{}: {line}", path.display());
@@ -191,11 +226,6 @@ fn selfcheck(files: &[&str]) -> Done {
     let counts: Vec<String> = counts.iter().map(|(word, count)| format!("{word} {count}")).collect();
     println!("{}", counts.join(", "));
     Ok(if differ == 0 { ExitCode::SUCCESS } else { ExitCode::FAILURE })
-}
-
-/// The first line in which the reference's answer and the model's differ.
-fn difference(reference: &Answer, model: &Answer) -> Option<String> {
-    first_difference("reference", &reference.text(), "model", &model.text())
 }
 
 fn generated(seed: &str, count: &str, folder: &str, class: &str) -> Done {
@@ -287,12 +317,17 @@ fn compared_relations(seed: &str, count: &str, program: &str, folder: &str) -> D
 }
 
 /// Writes the cases of the replay and their names; prints what the program `replay` has to print.
-fn replayed(accepted: &str, refused: &str, data: &str, names: &str) -> Done {
+fn replayed(accepted: &str, refused: &str, told: &str, data: &str, names: &str) -> Done {
     without_panic_messages();
-    let replay = replay::replay(number(accepted)? as usize, number(refused)? as usize)?;
-    write(data, &replay.bytes)?;
-    write(names, (replay.names.join("\n") + "\n").as_bytes())?;
-    println!("good {} refused {} differ 0", replay.accepted, replay.refused());
+    let checks = replay::replay(number(accepted)? as usize, number(refused)? as usize)?;
+    let messages = message_cases::cases(number(told)? as usize)?;
+    write(data, &[&checks.bytes[..], &messages.bytes].concat())?;
+    let messages_named = messages.names.iter().map(|name| format!("messages: {name}"));
+    let all: Vec<String> = checks.names.iter().cloned().chain(messages_named).collect();
+    write(names, (all.join("\n") + "\n").as_bytes())?;
+    let good = checks.accepted + messages.told[0];
+    println!("good {good} refused {} differ 0", checks.refused() + messages.refused());
+    eprintln!("checks: good {} refused {}; messages: {}", checks.accepted, checks.refused(), messages.counts());
     Ok(ExitCode::SUCCESS)
 }
 

@@ -3,7 +3,7 @@
 use std::collections::HashSet;
 
 use crate::{
-    answer::{Answer, Operand, texts},
+    answer::{Answer, Error, LITERAL_ERROR, Operand, texts},
     layout::{self, Module, Record},
     tree::Random,
 };
@@ -75,8 +75,19 @@ pub fn another_order(bytes: &[u8], seed: u64) -> Option<Vec<u8>> {
     Some(out)
 }
 
-/// The errors with their types unfolded, sorted.
-fn error_texts(answer: &Answer) -> Vec<String> {
+/// The place of an error in its file, that of a literal counted from the start of its item (document 02, paper 1).
+fn place_in_item(module: &Module, error: &Error) -> usize {
+    let place = error.place as usize;
+    let holds = |item: &&Record| item.place <= place && place < item.place + item.length;
+    match module.items.iter().find(holds) {
+        Some(item) if error.kind == LITERAL_ERROR => place - item.place,
+        _ => place,
+    }
+}
+
+/// The errors with their types unfolded and their places counted from the start of their items, sorted.
+fn error_texts(bytes: &[u8], answer: &Answer) -> Vec<String> {
+    let module = layout::read(bytes).expect("an accepted module");
     let texts = texts(&answer.rows);
     let operand = |operand: Operand| match operand {
         Operand::Number(number) => number.to_string(),
@@ -85,7 +96,10 @@ fn error_texts(answer: &Answer) -> Vec<String> {
     let mut all: Vec<String> = answer
         .errors
         .iter()
-        .map(|error| format!("{} {:?} {}", error.kind, error.at, error.operands.map(operand).join(" ")))
+        .map(|error| {
+            let operands = error.operands.map(operand).join(" ");
+            format!("{} {:?} {operands} {}", error.kind, error.at, place_in_item(&module, error))
+        })
         .collect();
     all.sort();
     all
@@ -116,7 +130,7 @@ fn item_texts(bytes: &[u8], answer: &Answer) -> Vec<ItemText> {
 pub fn difference(one: (&[u8], &Answer), two: (&[u8], &Answer)) -> Option<&'static str> {
     if one.1.rows.count() != two.1.rows.count() {
         Some("the counts of rows")
-    } else if error_texts(one.1) != error_texts(two.1) {
+    } else if error_texts(one.0, one.1) != error_texts(two.0, two.1) {
         Some("the errors")
     } else if item_texts(one.0, one.1) != item_texts(two.0, two.1) {
         Some("an item's tree")

@@ -14,7 +14,12 @@ use std::{
     time::Duration,
 };
 
-use crate::{buffers::words, rows::ROW_WIDTH};
+use crate::{
+    answer::ERROR_WIDTH,
+    buffers::words,
+    rows::ROW_WIDTH,
+    tell::{Question as Tell, Told},
+};
 
 /// How much is lent: bytes of output, words of rows, errors and work.
 #[derive(Clone, Copy, Debug, PartialEq, Eq, Hash)]
@@ -26,10 +31,10 @@ pub struct Loans {
 }
 
 /// What the report program lends.
-pub const REPORT: Loans = Loans { output: 65_536, rows: 3_000 * ROW_WIDTH, errors: 14_000, work: 16_376 };
+pub const REPORT: Loans = Loans { output: 65_536, rows: 3_000 * ROW_WIDTH, errors: 2_000 * ERROR_WIDTH, work: 16_376 };
 
 /// Room for 7,000 rows and 4,000 errors.
-pub const ROOMY: Loans = Loans { output: 65_536, rows: 7_000 * ROW_WIDTH, errors: 28_000, work: 16_376 };
+pub const ROOMY: Loans = Loans { output: 65_536, rows: 7_000 * ROW_WIDTH, errors: 4_000 * ERROR_WIDTH, work: 16_376 };
 
 /// What stands in every lent word before a run.
 pub const FILL: u32 = 0xa5a5_a5a5;
@@ -105,6 +110,34 @@ impl Product {
         }
     }
 
+    /// Whether the product is asked for messages; a program is not.
+    pub fn tells(&self) -> bool {
+        !matches!(self, Product::Program(_))
+    }
+
+    /// What the product tells to questions for messages.
+    #[cfg_attr(not(linked), allow(unused_variables))]
+    pub fn told(&mut self, questions: &[Tell]) -> Result<Vec<Told>, String> {
+        match self {
+            Product::Program(_) => Err("a program is not asked for messages".to_owned()),
+            #[cfg(linked)]
+            Product::Linked => linked::told(questions),
+        }
+    }
+
+    /// Has the product tell the same several times.
+    #[cfg_attr(not(linked), allow(unused_variables))]
+    pub fn tell_again(&mut self, question: &Tell, turns: u32) -> Result<(), String> {
+        match self {
+            Product::Program(_) => Err("a program is not asked for messages".to_owned()),
+            #[cfg(linked)]
+            Product::Linked => {
+                linked::tell_again(question, turns);
+                Ok(())
+            }
+        }
+    }
+
     /// Has the product check a module several times, at least two, with roomy loans.
     pub fn repeat(&mut self, module: &[u8], turns: u32) -> Result<(), String> {
         match self {
@@ -121,7 +154,7 @@ impl Product {
 /// The product as a static library, as `rt staticlib` makes it: a slice is a pointer and a length.
 #[cfg(linked)]
 mod linked {
-    use super::{FILL, LIMIT, Loans, Question, ROOMY, Reply, Said};
+    use super::{FILL, LIMIT, Loans, Question, ROOMY, Reply, Said, Tell, Told};
     use std::{sync::mpsc, thread};
 
     unsafe extern "C" {
@@ -164,6 +197,26 @@ mod linked {
 
         /// 0 with the size, or the number of the refusal.
         fn delta_null_word_size(rows: *const u32, rows_len: usize, count: u32, n: u32, size: *mut u32) -> u32;
+
+        /// 0 with the length of the text, or the number of the refusal with its place.
+        fn delta_null_messages(
+            input: *const u8,
+            input_len: usize,
+            rows: *const u32,
+            rows_len: usize,
+            row_count: u32,
+            errors: *const u32,
+            errors_len: usize,
+            error_count: usize,
+            built_in: *const u8,
+            built_in_len: usize,
+            work: *mut u32,
+            work_len: usize,
+            text: *mut u8,
+            text_len: usize,
+            length: *mut usize,
+            place: *mut usize,
+        ) -> u32;
     }
 
     /// Buffers as they are before a run.
@@ -246,6 +299,57 @@ mod linked {
         });
         let replies = receive.recv_timeout(LIMIT).map_err(|_| "no answer in time".to_owned())?;
         replies.ok_or_else(|| "the rows are not as they were".to_owned())
+    }
+
+    /// What is lent for a question, before it is asked.
+    fn lent(question: &Tell) -> Told {
+        let (work, text) = (vec![FILL; question.work], vec![FILL as u8; question.text]);
+        Told { number: FILL, length: FILL as usize, place: FILL as usize, work, text }
+    }
+
+    fn tell(question: &Tell, told: &mut Told) {
+        // The slices are apart from each other, and the function keeps none of them.
+        told.number = unsafe {
+            delta_null_messages(
+                question.module.as_ptr(),
+                question.module.len(),
+                question.rows.as_ptr(),
+                question.rows.len(),
+                question.row_count,
+                question.errors.as_ptr(),
+                question.errors.len(),
+                question.error_count,
+                question.built_in.as_ptr(),
+                question.built_in.len(),
+                told.work.as_mut_ptr(),
+                told.work.len(),
+                told.text.as_mut_ptr(),
+                told.text.len(),
+                &mut told.length,
+                &mut told.place,
+            )
+        };
+    }
+
+    /// On a thread of its own, with a limit of time. What is only read must stay as it was.
+    pub fn told(questions: &[Tell]) -> Result<Vec<Told>, String> {
+        let (send, receive) = mpsc::channel();
+        let before = questions.to_vec();
+        thread::spawn(move || {
+            let questions = before.clone();
+            let mut all: Vec<Told> = questions.iter().map(lent).collect();
+            questions.iter().zip(&mut all).for_each(|(question, told)| tell(question, told));
+            let _ = send.send((questions == before).then_some(all));
+        });
+        let told = receive.recv_timeout(LIMIT).map_err(|_| "no messages in time".to_owned())?;
+        told.ok_or_else(|| "what messages read is not as it was".to_owned())
+    }
+
+    pub fn tell_again(question: &Tell, turns: u32) {
+        let mut told = lent(question);
+        for _ in 0..turns {
+            tell(std::hint::black_box(question), &mut told);
+        }
     }
 
     pub fn repeat(module: &[u8], turns: u32) {

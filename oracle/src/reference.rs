@@ -2,7 +2,12 @@
 
 use std::{fmt, sync::mpsc, thread, time::Duration};
 
-use crate::{answer::Answer, attribute, decode::Decoder, layout::Module, type_check::type_check_module};
+use crate::{
+    attribute::{self, Spoken},
+    decode::Decoder,
+    layout::Module,
+    type_check::type_check_module,
+};
 
 /// Why the reference says nothing of a module.
 #[derive(Clone, Debug, PartialEq, Eq)]
@@ -34,7 +39,7 @@ pub const MOST_WORK: u64 = 5_000_000;
 const STACK: usize = 1 << 30;
 
 /// What the reference says of a module, if it answers in time.
-pub fn check(module: &Module, limit: Duration) -> Result<Answer, Silence> {
+pub fn check(module: &Module, limit: Duration) -> Result<Spoken, Silence> {
     let (send, receive) = mpsc::channel();
     let module = module.clone();
     let worker = thread::Builder::new().stack_size(STACK).spawn(move || {
@@ -42,16 +47,16 @@ pub fn check(module: &Module, limit: Duration) -> Result<Answer, Silence> {
     });
     let worker = worker.map_err(|e| Silence::Broken(e.to_string()))?;
     match receive.recv_timeout(limit) {
-        Ok(answer) => {
+        Ok(spoken) => {
             let _ = worker.join();
-            answer
+            spoken
         }
         Err(mpsc::RecvTimeoutError::Timeout) => Err(Silence::Timeout),
         Err(mpsc::RecvTimeoutError::Disconnected) => Err(Silence::Broken("the reference panicked".to_owned())),
     }
 }
 
-fn run(module: &Module) -> Result<Answer, Silence> {
+fn run(module: &Module) -> Result<Spoken, Silence> {
     let decoder = Decoder::new(module).map_err(|_| Silence::Undecodable)?;
     let tree = decoder.module(module).map_err(|_| Silence::Undecodable)?;
     let checked = type_check_module(tree);

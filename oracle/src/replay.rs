@@ -1,13 +1,13 @@
 //! The data of the program `replay`: modules with what is lent for them and what the oracle says of them.
 //!
-//! A case is twelve words, least byte first (bytes of the whole case, bytes of the module, bytes lent for the output, words lent for
+//! A case of a check is thirteen words, least byte first (bytes of the whole case, 0, bytes of the module, bytes lent for the output, words lent for
 //! rows, errors and work, number and place of the refusal or 0, rows, errors, slots, names), the module, five words for each
-//! row, seven for each error, one for each slot in byte order. The rows are numbered as the oracle numbers them.
+//! row, eight for each error, one for each slot in byte order. The rows are numbered as the oracle numbers them.
 
 use std::collections::HashSet;
 
 use crate::{
-    answer::{Answer, Operand},
+    answer::{Answer, ERROR_KINDS, ERROR_WIDTH, Operand},
     compare::{Truth, truth},
     damage, generate, hand,
     layout::{self, Module, Record},
@@ -25,13 +25,13 @@ pub struct Replay {
     pub accepted: usize,
     /// What the accepted modules have in them, and how many of them have each kind of error.
     seen: HashSet<Feature>,
-    errors: [usize; ERROR_KINDS + 1],
+    errors: [usize; ERROR_KINDS as usize + 1],
     modules: HashSet<Vec<u8>>,
     cases: HashSet<(Vec<u8>, Loans)>,
 }
 
-/// How many kinds of errors there are.
-const ERROR_KINDS: usize = 29;
+/// The words of a case before the module.
+pub const HEAD_BYTES: usize = 4 * 13;
 
 /// In how many accepted cases each kind of error stands, at least.
 const CASES_OF_AN_ERROR: usize = 40;
@@ -45,12 +45,7 @@ type Feature = (u8, u32, [u32; 3]);
 /// The words of the answer: rows, errors, slots.
 fn answer_words(answer: &Answer) -> Vec<u32> {
     let mut words = answer.rows.row_words();
-    for error in &answer.errors {
-        words.extend([error.kind, u32::from(error.at.file), error.at.line, error.at.column]);
-        words.extend(error.operands.map(|operand| match operand {
-            Operand::Number(word) | Operand::Row(word) => word,
-        }));
-    }
+    words.extend(answer.errors.iter().flat_map(|error| error.words()));
     let mut slots = answer.slots.clone();
     slots.sort();
     words.extend(slots.iter().map(|slot| slot.1));
@@ -73,9 +68,9 @@ fn case(bytes: &[u8], loans: Loans, truth: &Truth) -> Vec<u8> {
             ([refusal.number as usize, refusal.place], [0; 4], vec![])
         }
     };
-    let total = 48 + bytes.len() + 4 * body.len();
+    let total = HEAD_BYTES + bytes.len() + 4 * body.len();
     let head =
-        [&[total, bytes.len(), loans.output, loans.rows, loans.errors, loans.work], &refusal[..], &counts].concat();
+        [&[total, 0, bytes.len(), loans.output, loans.rows, loans.errors, loans.work], &refusal[..], &counts].concat();
     let mut out: Vec<u8> = head.iter().flat_map(|&word| (word as u32).to_le_bytes()).collect();
     out.extend(bytes);
     out.extend(body.iter().flat_map(|word| word.to_le_bytes()));
@@ -120,7 +115,7 @@ fn exact(bytes: &[u8], module: &Module, answer: &Answer) -> Loans {
     Loans {
         output: bytes.len(),
         rows: ROW_WIDTH * answer.rows.count(),
-        errors: 7 * answer.errors.len(),
+        errors: ERROR_WIDTH * answer.errors.len(),
         work: 4 * module.names.len(),
     }
 }
@@ -130,7 +125,7 @@ fn odd(exact: Loans, random: &mut Random) -> Loans {
     Loans {
         output: exact.output + random.below(4),
         rows: exact.rows + random.below(ROW_WIDTH),
-        errors: exact.errors + random.below(7),
+        errors: exact.errors + random.below(ERROR_WIDTH),
         work: exact.work + random.below(4),
     }
 }
@@ -139,7 +134,7 @@ fn odd(exact: Loans, random: &mut Random) -> Loans {
 fn tight(exact: Loans, random: &mut Random) -> Vec<(&'static str, Loans)> {
     let Loans { output, rows, errors, work } = exact;
     let mut from = |low, high| random.between(low, high);
-    let (few_rows, few_errors) = (from(1, ROW_WIDTH - 1), from(1, 6));
+    let (few_rows, few_errors) = (from(1, ROW_WIDTH - 1), from(1, ERROR_WIDTH - 1));
     vec![
         ("exact loans", exact),
         ("output to spare", Loans { output: output + from(1, 9), ..exact }),
@@ -158,8 +153,8 @@ fn tight(exact: Loans, random: &mut Random) -> Vec<(&'static str, Loans)> {
         ("no rows", Loans { rows: 0, ..exact }),
         ("too few rows and errors", Loans { rows: rows - few_rows, errors: errors - few_errors, ..exact }),
         ("one error word less", Loans { errors: errors - 1, ..exact }),
-        ("no whole last error", Loans { errors: errors - 7 + few_errors, ..exact }),
-        ("one error less", Loans { errors: errors - 7, ..exact }),
+        ("no whole last error", Loans { errors: errors - ERROR_WIDTH + few_errors, ..exact }),
+        ("one error less", Loans { errors: errors - ERROR_WIDTH, ..exact }),
         ("no errors lent", Loans { errors: 0, ..exact }),
         ("too few errors, row words to spare", Loans { rows: rows + few_rows, errors: errors - few_errors, ..exact }),
     ]

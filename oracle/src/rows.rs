@@ -252,6 +252,11 @@ impl Row {
         [self.first, second].into_iter().filter(|&part| part != 0)
     }
 
+    /// Whether its fourth word is a name.
+    pub fn has_name(&self) -> bool {
+        matches!(self.kind, kind::ALIAS | kind::DISTINCT | kind::FIELD)
+    }
+
     /// Whether the row is a list cell and so no type.
     pub fn is_cell(&self) -> bool {
         matches!(self.kind, kind::FIELD | kind::ARGUMENT)

@@ -3,7 +3,7 @@
 use std::collections::BTreeMap;
 
 use crate::{
-    answer::Answer,
+    answer::{Answer, ERROR_KINDS},
     layout::{self, Module, Record, Refusal},
     model,
 };
@@ -71,7 +71,7 @@ impl Stats {
     /// The record kinds and error kinds that no module had, and the greatest module in each respect.
     pub fn missing(&self) -> String {
         let kinds: Vec<u16> = KINDS.into_iter().flatten().filter(|kind| !self.records.contains_key(kind)).collect();
-        let errors: Vec<u32> = (1..=29).filter(|kind| !self.errors.contains_key(kind)).collect();
+        let errors: Vec<u32> = (1..=ERROR_KINDS).filter(|kind| !self.errors.contains_key(kind)).collect();
         format!("{}\nnever met: record kinds {kinds:?}, error kinds {errors:?}\n", self.greatest())
     }
 
@@ -94,7 +94,7 @@ impl Stats {
         for kind in KINDS.into_iter().flatten() {
             text += &format!("record {kind}: {}\n", self.records.get(&kind).unwrap_or(&0));
         }
-        for kind in 1..=29 {
+        for kind in 1..=ERROR_KINDS {
             text += &format!("error {kind}: {}\n", self.errors.get(&kind).unwrap_or(&0));
         }
         text

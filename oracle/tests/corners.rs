@@ -3,13 +3,25 @@
 mod common;
 
 use common::*;
-use oracle::tree::Tree;
+use oracle::{layout, tell, tree::Tree};
 
-/// The error lines of a module of these items, without the word `error` and file and column.
-fn lines(items: Vec<Tree>) -> Vec<String> {
-    let text = both(&module(items)).text();
+/// The error lines of what is said of a module, without the word `error` and the place in the file, which only a literal has.
+fn error_lines(bytes: &[u8]) -> Vec<String> {
+    let text = both(bytes).text();
     let errors = text.lines().filter_map(|line| line.strip_prefix("error "));
     errors
+        .map(|line| {
+            let (line, place) = line.rsplit_once(' ').unwrap();
+            assert_eq!(place == "0", !line.starts_with("23 "));
+            line.to_owned()
+        })
+        .collect()
+}
+
+/// The error lines of a module of these items, without file and column.
+fn lines(items: Vec<Tree>) -> Vec<String> {
+    error_lines(&module(items))
+        .iter()
         .map(|line| {
             let words: Vec<&str> = line.splitn(5, ' ').collect();
             assert_eq!((words[1], words[3]), ("0", "0"));
@@ -217,10 +229,7 @@ fn types_printed_alike() {
         ("8 0 0 0 (6 (4)) (11 (3) 2) 0", &|x| record(67, &[], vec![id(pointing), id(x)])),
         ("12 0 0 0 1 (6 (4)) (11 (3) 2)", &|x| evaluated(record(36, &[0], vec![id(takes), id(x)]))),
     ];
-    let said = |items: Vec<Tree>| {
-        let text = both(&Tree::module(&names, items).to_bytes()).text();
-        text.lines().filter_map(|line| line.strip_prefix("error ")).map(str::to_owned).collect::<Vec<_>>()
-    };
+    let said = |items: Vec<Tree>| error_lines(&Tree::module(&names, items).to_bytes());
     for (expected, statement) in statements {
         let members = vec![statement(pointing), statement(aliased)];
         let mut items = declared();
@@ -232,4 +241,32 @@ fn types_printed_alike() {
         items.push(record(80, &[body], vec![returned, record(69, &[], vec![])]));
     }
     assert_eq!(said(items), ["9 0 0 0 (10 (3) 7) 0 0"]);
+}
+
+/// The places of the literals out of range in a module of these items, and of all its literals in byte order.
+fn literal_places(items: Vec<Tree>) -> (Vec<u32>, Vec<u32>) {
+    let bytes = module(items);
+    let bad = both(&bytes).errors.iter().map(|error| error.place).collect();
+    let module = layout::read(&bytes).unwrap();
+    let mut all: Vec<u32> = tell::literals(&module).into_keys().collect();
+    all.sort();
+    (bad, all)
+}
+
+/// Literals that are printed alike and stand at one place of the source are told apart by their records: those whose base makes them good,
+/// and those of two items.
+#[test]
+fn literals_printed_alike() {
+    let sum = |left, right| record(45, &[0, 1], vec![left, right]);
+    let nine = |base| literal("9", base);
+    let value = sum(sum(nine(9), nine(10)), sum(nine(16), sum(nine(8), nine(9))));
+    let (bad, all) = literal_places(vec![global_with(X, ty(U16), value.clone())]);
+    assert_eq!(bad, [all[0], all[3], all[4]]);
+    let call = record(36, &[0], vec![id(F), nine(36), nine(2), nine(2)]);
+    let takes = |name| record(85, &[name], vec![ty(U16)]);
+    let called = record(80, &[F], vec![ty(U16), takes(X), takes(Y), takes(M)]);
+    let elements = record(48, &[], vec![nine(9), call, nine(10), nine(3)]);
+    let of_two = vec![called, global_with(Y, array(4, ty(U16)), elements), global_with(X, ty(U16), value)];
+    let (bad, all) = literal_places(of_two);
+    assert_eq!(bad, [0, 2, 3, 5, 6, 9, 10].map(|i: usize| all[i]));
 }

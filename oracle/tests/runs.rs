@@ -5,8 +5,8 @@ mod common;
 use std::time::Duration;
 
 use oracle::{
-    answer::Operand, buffers, compare, damage, generate, hand, layout, model, orders, pairs::Casts, reference, relate,
-    rows::ROW_WIDTH, shrink, tables,
+    answer::ERROR_KINDS, buffers, compare, damage, generate, hand, layout, model, orders, pairs::Casts, reference,
+    relate, rows::ROW_WIDTH, shrink, tables,
 };
 
 /// The reference panics where a type has no words.
@@ -27,7 +27,7 @@ fn compare_both(bytes: &[u8], label: &str) {
         return;
     }
     match reference::check(&module, Duration::from_secs(60)) {
-        Ok(answer) => assert_eq!(answer.text(), outcome.answer.text(), "{label}"),
+        Ok(spoken) => assert_eq!(compare::difference(&module, &spoken, &outcome.answer), None, "{label}"),
         Err(silence) => assert_eq!(silence, reference::Silence::Undecodable, "{label}"),
     }
 }
@@ -103,17 +103,7 @@ fn buffers_are_read_back() {
             output[place..place + 4].copy_from_slice(&row.to_le_bytes());
         }
         let rows = answer.rows.row_words();
-        let word = |operand: Operand| match operand {
-            Operand::Number(word) | Operand::Row(word) => word,
-        };
-        let errors: Vec<u32> = answer
-            .errors
-            .iter()
-            .flat_map(|error| {
-                let at = error.at;
-                [&[error.kind, u32::from(at.file), at.line, at.column][..], &error.operands.map(word)].concat()
-            })
-            .collect();
+        let errors: Vec<u32> = answer.errors.iter().flat_map(|error| error.words()).collect();
         assert_eq!(buffers::answer(&bytes, &output, &rows, &errors).unwrap().text(), answer.text());
         // A wrong fifth word is told.
         let mut wrong = rows.clone();
@@ -152,7 +142,7 @@ fn modules_by_hand() {
             kinds.extend(answer.errors.iter().map(|error| error.kind));
         }
     }
-    assert!(kinds.into_iter().eq(1..=29));
+    assert!(kinds.into_iter().eq(1..=ERROR_KINDS));
 }
 
 #[test]

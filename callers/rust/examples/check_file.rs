@@ -1,12 +1,14 @@
 //! Checks a module file and prints as the report program does: the counts, then kind, file, line and column of each error; turned back,
-//! the number and the place. Last come two answers about rows, which any table has: what the other three functions say of them.
+//! the number and the place. Then the errors as messages, a line each. Last come two answers about rows, which any table has: what the
+//! other three functions say of them.
 use std::env;
 use std::error::Error;
 use std::fs;
+use std::io::{self, Write};
 use std::process::ExitCode;
 
-use delta_null_type_check::{ERROR_WORDS, ROW_WORDS, Refused, WordSize};
-use delta_null_type_check::{assignable, castable, type_check_module, word_size};
+use delta_null_type_check::{ERROR_WORDS, LONGEST_TEXT, ROW_WORDS, Refused, WordSize};
+use delta_null_type_check::{assignable, castable, messages, type_check_module, word_size};
 
 const ROWS: usize = 3000;
 const ERRORS: usize = 2000;
@@ -27,6 +29,10 @@ fn check(input: &[u8]) -> Result<(), Refused> {
     for e in errors.chunks_exact(ERROR_WORDS).take(counts.errors) {
         println!("{} {} {} {}", e[0], e[1], e[2], e[3]);
     }
+    let mut text = vec![0; LONGEST_TEXT];
+    let length = messages(input, &rows, &errors, counts, b"String", &mut work, &mut text)?;
+    // Names may be any bytes.
+    io::stdout().write_all(&text[..length]).expect("standard output takes them");
     let assignable = assignable(&rows, counts.rows, U16, I16)?;
     let cast = castable(&rows, counts.rows, I16, U16)?;
     let words = match word_size(&rows, counts.rows, VOID)? {

@@ -12,8 +12,11 @@ compile_error!("the static library is for x86-64 Linux");
 
 /// Words of a row, of an error, and working words of a name.
 pub const ROW_WORDS: usize = 5;
-pub const ERROR_WORDS: usize = 7;
+pub const ERROR_WORDS: usize = 8;
 pub const NAME_WORDS: usize = 4;
+
+/// The bytes of the longest text of [`messages`].
+pub const LONGEST_TEXT: usize = 1 << 20;
 
 const TOO_LARGE: u32 = 65536;
 const UNKNOWN: u32 = 65537;
@@ -33,6 +36,25 @@ unsafe extern "C" {
         work_length: usize,
         row_count: *mut u32,
         error_count: *mut usize,
+        place: *mut usize,
+    ) -> u32;
+
+    fn delta_null_messages(
+        input: *const u8,
+        input_length: usize,
+        rows: *const u32,
+        rows_length: usize,
+        row_count: u32,
+        errors: *const u32,
+        errors_length: usize,
+        error_count: usize,
+        built_in: *const u8,
+        built_in_length: usize,
+        work: *mut u32,
+        work_length: usize,
+        text: *mut u8,
+        text_length: usize,
+        length: *mut usize,
         place: *mut usize,
     ) -> u32;
 
@@ -65,7 +87,8 @@ pub struct Counts {
     pub errors: usize,
 }
 
-/// Why a call is refused: a number of the header's `delta_null_refusal`, and the place in the module, or 0.
+/// Why a call is refused: a number of the header's `delta_null_refusal`, and the place in the module, or 0. Of 9 the place is the length that
+/// the text needs, one more than [`LONGEST_TEXT`] for anything above that.
 #[derive(Clone, Copy, Debug, PartialEq, Eq)]
 pub struct Refused {
     pub number: u32,
@@ -128,6 +151,46 @@ pub fn type_check_module(
         )
     };
     answer(number, place, Counts { rows: row_count, errors: error_count })
+}
+
+/// Writes the first errors of a module as messages, a line each, over its first rows; `counts` says how many of both. The length of the text.
+///
+/// `input` is the module as it was read, not the output of its check, which is refused with 2. `built_in` is printed for the type String.
+/// `work` has a word a row. The tests are made in this order: 1 to 4 on the module; 8, if a row breaks a rule, or something that a row
+/// names or a message reads does not exist; 5, for fewer working words than rows; 9, for a text that is longer than the one lent or than
+/// [`LONGEST_TEXT`].
+pub fn messages(
+    input: &[u8],
+    rows: &[u32],
+    errors: &[u32],
+    counts: Counts,
+    built_in: &[u8],
+    work: &mut [u32],
+    text: &mut [u8],
+) -> Result<usize, Refused> {
+    let (mut length, mut place) = (0, 0);
+    // SAFETY: each pointer and length is of one slice; the `&mut` are apart from each other and from the others.
+    let number = unsafe {
+        delta_null_messages(
+            input.as_ptr(),
+            input.len(),
+            rows.as_ptr(),
+            rows.len(),
+            counts.rows,
+            errors.as_ptr(),
+            errors.len(),
+            counts.errors,
+            built_in.as_ptr(),
+            built_in.len(),
+            work.as_mut_ptr(),
+            work.len(),
+            text.as_mut_ptr(),
+            text.len(),
+            &mut length,
+            &mut place,
+        )
+    };
+    answer(number, place, length)
 }
 
 /// Whether a value of the type of row `source` may be assigned to a place of the type of row `target`. The table is the first `count`

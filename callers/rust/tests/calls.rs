@@ -2,13 +2,14 @@
 mod common;
 
 use common::{FIXED, cast, refused, with_fixed};
-use delta_null_type_check::{Counts, ROW_WORDS, Refused, WordSize};
+use delta_null_type_check::{Counts, ERROR_WORDS, ROW_WORDS, Refused, WordSize};
 use delta_null_type_check::{assignable, castable, type_check_module, word_size};
 
 const MODULE: &[u8] = include_bytes!("../../example.module");
 
-/// The working words of its two names, and the place of its one slot.
+/// The working words of its two names, the words of its two errors, and the place of its one slot.
 const WORK: usize = 8;
+const TWO_ERRORS: usize = 2 * ERROR_WORDS;
 const SLOT: usize = 104;
 
 struct Lent {
@@ -33,21 +34,21 @@ fn untouched(lent: &Lent) -> bool {
 
 #[test]
 fn module_accepted() {
-    let mut lent = lend(MODULE.len() + 1, FIXED + 1, 15, WORK + 1);
+    let mut lent = lend(MODULE.len() + 1, FIXED + 1, TWO_ERRORS + 1, WORK + 1);
     assert_eq!(check(MODULE, &mut lent), Ok(Counts { rows: 7, errors: 2 }));
     let mut output = MODULE.to_vec();
     output[SLOT] = 1;
     output.push(9);
     assert_eq!(lent.output, output);
     assert_eq!(lent.rows[25..], [6, 4, 0, 0, 1, 11, 6, 0, 65535, 1, 9]);
-    assert_eq!(lent.errors, [1, 0, 3, 8, 1, 0, 0, 1, 0, 3, 8, 1, 0, 0, 9]);
+    assert_eq!(lent.errors, [1, 0, 3, 8, 1, 0, 0, 0, 1, 0, 3, 8, 1, 0, 0, 0, 9]);
     assert_eq!(lent.work, [0, 0, 0, 0, 0, 0, 0, 0, 9]);
 }
 
 /// A file of no bytes is the module without names and items, with no more than seven rows lent.
 #[test]
 fn no_bytes() {
-    for (output, errors, work) in [(0, 0, 0), (1, 7, 4)] {
+    for (output, errors, work) in [(0, 0, 0), (1, ERROR_WORDS, 4)] {
         let mut lent = lend(output, FIXED + 1, errors, work);
         assert_eq!(check(&[], &mut lent), Ok(Counts { rows: 7, errors: 0 }));
         assert_eq!(lent.rows[25..], [6, 4, 0, 0, 1, 11, 6, 0, 65535, 1, 9]);
@@ -80,7 +81,7 @@ fn module_refused_untouched() {
         (MODULE, one_short, WORK, 5, 0),
         (MODULE, all, WORK - 1, 5, 0),
     ] {
-        let mut lent = lend(output, FIXED, 14, work);
+        let mut lent = lend(output, FIXED, TWO_ERRORS, work);
         assert_eq!(check(input, &mut lent), refused(number, place));
         assert!(untouched(&lent));
     }
@@ -88,7 +89,7 @@ fn module_refused_untouched() {
 
 #[test]
 fn module_refused_emptied() {
-    for (rows, errors, number) in [(FIXED - 1, 14, 6), (0, 0, 6), (FIXED, 13, 7)] {
+    for (rows, errors, number) in [(FIXED - 1, TWO_ERRORS, 6), (0, 0, 6), (FIXED, TWO_ERRORS - 1, 7)] {
         let mut lent = lend(MODULE.len() + 1, rows, errors, WORK + 1);
         assert_eq!(check(MODULE, &mut lent), refused(number, 0));
         let (last, first) = lent.output.split_last().unwrap();

@@ -8,8 +8,8 @@ use lib.ListN.{length}
 use borrow.Author.Tests.{eq-eqb}
 use Rattle.types.specs.Ty.{Ty, end, node, is, firstOf, secondOf, cellCount, argumentKind}
 use Rattle.types.specs.Table.{IsType}
-use Rattle.node.specs.Bytes.{Read, wordAt}
-use Rattle.node.specs.Layout.{maxBytes, stopAt}
+use Rattle.record_bytes.specs.Bytes.{Read, wordAt}
+use Rattle.layout.specs.Layout.{maxBytes, stopAt}
 use Rattle.walk.specs.Words.{slotPlace, slotEnd}
 use Rattle.walk.specs.Represents.{Lent, Grew, Typing}
 use Rattle.walk.proofs.Laws.{typing-later}

@@ -9,7 +9,7 @@ use Rattle.types.specs.Ty.{Ty, is, kindOf, secondOf, cellCount, functionKind}
 use Rattle.types.specs.Table.{unfolded, Table, IsCell}
 use Rattle.types.specs.Post.{TypePart, CellPart}
 use Rattle.relations.specs.TypeRows.{OneType}
-use Rattle.node.specs.Record.{locationAt}
+use Rattle.trees.specs.Record.{locationAt}
 use Rattle.fallible.specs.declared.Error.{Error}
 use Rattle.fallible.specs.Operands.{isTypeOperand, operandSort}
 use Rattle.meaning.specs.TypeError.{unless, argumentCount, notCallable}

@@ -12,10 +12,10 @@ use Rattle.types.proofs.Laws.{unfolded-zero}
 use Rattle.types.proofs.Query.{cell-kind}
 use Rattle.relations.specs.TypeRows.{TwoTypes}
 use Rattle.relations.specs.Relations.{typesAreAssignable}
-use Rattle.node.specs.Bytes.{Read, wordAt}
-use Rattle.node.specs.Layout.{stopAt}
-use Rattle.node.specs.Record.{locationAt}
-use Rattle.node.specs.Tree.{Location}
+use Rattle.record_bytes.specs.Bytes.{Read, wordAt}
+use Rattle.layout.specs.Layout.{stopAt}
+use Rattle.trees.specs.Record.{locationAt}
+use Rattle.trees.specs.Tree.{Location}
 use Rattle.fallible.specs.Operands.{isTypeOperand, operandSort}
 use Rattle.meaning.specs.TypeError.{TypeError, unless, invalidArgument}
 use Rattle.meaning.specs.Expression.{argumentErrors}

@@ -5,9 +5,9 @@ use mathlib.Core.List.{List}
 use lib.ListN.{length}
 use Rattle.types.specs.Ty.{Ty, end, node, functionKind, argumentKind}
 use Rattle.types.specs.Table.{unfolded, IsType}
-use Rattle.node.specs.Bytes.{wordAt}
-use Rattle.node.specs.Layout.{maxBytes, stopAt}
-use Rattle.node.specs.Record.{locationAt}
+use Rattle.record_bytes.specs.Bytes.{wordAt}
+use Rattle.layout.specs.Layout.{maxBytes, stopAt}
+use Rattle.trees.specs.Record.{locationAt}
 use Rattle.meaning.specs.Expression.{partOf, argumentErrors, callErrors}
 use Rattle.walk.specs.declared.State.{State}
 use Rattle.walk.specs.declared.Typed.{Typed}

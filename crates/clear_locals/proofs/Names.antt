@@ -10,7 +10,7 @@ use lib.ListN.{length, getD, set, length-set, List·getD-eq-default}
 use lib.Seq.{getD-set-same, getD-set-other}
 use borrow.Author.Tests.{eqb-true, eqb-false, ltb-true, ltb-false}
 use Rattle.types.specs.Ty.{Ty}
-use Rattle.node.specs.Tree.{Parameter, Statement}
+use Rattle.trees.specs.Tree.{Parameter, Statement}
 use Rattle.meaning.specs.Context.{TypeMap, insertAll, ModuleContext, Context, entry}
 use Rattle.meaning.specs.Statement.{isLocal, withLocal, declareLocal, contextAfter, declaredNames}
 use Rattle.meaning.specs.Module.{parameterEntry}

@@ -9,21 +9,21 @@ use borrow.Author.Tests.{eqb-true, eqb-false}
 use lib.ListN.{length, set, length-set}
 use Rattle.shape.specs.Shape.{aType, aStatement, dueIn}
 use Rattle.shape.specs.declared.Holds.the-variants.{Statements, Parameters}
-use Rattle.node.specs.Bytes.{Read, halfAt, wordAt}
-use Rattle.node.specs.Names.{nameCount}
-use Rattle.node.specs.Layout.{kindAt, stopAt}
+use Rattle.record_bytes.specs.Bytes.{Read, halfAt, wordAt}
+use Rattle.names.specs.Names.{nameCount}
+use Rattle.layout.specs.Layout.{kindAt, stopAt}
 use Rattle.node.specs.Fine.{FineRecord, FineList, childrenOf}
-use Rattle.node.specs.Record.{statementAt, statementsAt, parametersAt}
-use Rattle.node.specs.Tree.{Parameter, Statement, block, expression, variableDeclaration, assignment, compoundAssignment, return, loop, while, break, «if», ifElse, inlineAssembly, noStatements, statementThen}
+use Rattle.trees.specs.Record.{statementAt, statementsAt, parametersAt}
+use Rattle.trees.specs.Tree.{Parameter, Statement, block, expression, variableDeclaration, assignment, compoundAssignment, return, loop, while, break, «if», ifElse, inlineAssembly, noStatements, statementThen}
 use Rattle.node.proofs.Open.{SplitOne, split-may}
-use Rattle.node.proofs.Decode.{fine-wide}
-use Rattle.node.proofs.Statements.{statements-cons, statements-end, VariableAt, statement-variable, statementKind, kind-of}
-use Rattle.node.proofs.ItemTrees.{ParameterAt, parameters-none, parameter-at, body-at}
+use Rattle.trees.proofs.Decode.{fine-wide}
+use Rattle.trees.proofs.Statements.{statements-cons, statements-end, VariableAt, statement-variable, statementKind, kind-of}
+use Rattle.trees.proofs.ItemTrees.{ParameterAt, parameters-none, parameter-at, body-at}
 use Rattle.meaning.specs.Statement.{declaredNames}
 use Rattle.walk.specs.Words.{wordPlace}
 use Rattle.divergence.specs.InnerStatements.{innerStatements, InnerOf}
-use Rattle.node.specs.declared.fine.Entered.{Entered}
-use Rattle.node.specs.declared.fine.Nodes.{Nodes}
+use Rattle.node.specs.declared.Entered.{Entered}
+use Rattle.node.specs.declared.Nodes.{Nodes}
 use Rattle.divergence.proofs.Walk.{Bounds, bounds, held-is}
 use Rattle.clear_locals.specs.Cleared.{parameterNames, clearedWords}
 use Rattle.clear_locals.proofs.Names.{cleared-append, cleared-wide}

@@ -5,7 +5,7 @@ use mathlib.Core.List.{List, [], _∷_}
 use mathlib.Core.Option.{Option, none, some}
 use lib.Dec.{eqb}
 use lib.ListN.{set}
-use Rattle.node.specs.Tree.{Parameter, Statement}
+use Rattle.trees.specs.Tree.{Parameter, Statement}
 use Rattle.meaning.specs.Statement.{declaredNames}
 use Rattle.walk.specs.Words.{wordPlace}
 

@@ -11,10 +11,10 @@ use Rattle.types.specs.Ty.{Ty, end, node, is, kindOf, firstOf, secondOf, sizeOf
 use Rattle.types.specs.Table.{unfolded, IsType}
 use Rattle.types.specs.Post.{TypePart}
 use Rattle.relations.specs.TypeRows.{OneType, TwoTypes}
-use Rattle.node.specs.Bytes.{Read, wordAt}
-use Rattle.node.specs.Layout.{stopAt}
-use Rattle.node.specs.Record.{locationAt}
-use Rattle.node.specs.Tree.{Location}
+use Rattle.record_bytes.specs.Bytes.{Read, wordAt}
+use Rattle.layout.specs.Layout.{stopAt}
+use Rattle.trees.specs.Record.{locationAt}
+use Rattle.trees.specs.Tree.{Location}
 use Rattle.fallible.specs.declared.Error.{Error}
 use Rattle.fallible.specs.Operands.{isTypeOperand, operandSort}
 use Rattle.meaning.specs.TypeError.{unless, compoundLength, arrayCompoundTarget}

@@ -11,10 +11,10 @@ use Rattle.types.specs.Table.{unfolded, Table, IsType}
 use Rattle.types.specs.Post.{FoundType}
 use Rattle.relations.specs.TypeRows.{OneType, TwoTypes}
 use Rattle.relations.specs.Relations.{typesAreAssignable}
-use Rattle.node.specs.Bytes.{Read, wordAt}
-use Rattle.node.specs.Layout.{stopAt}
-use Rattle.node.specs.Record.{locationAt}
-use Rattle.node.specs.Tree.{Location, CompoundField}
+use Rattle.record_bytes.specs.Bytes.{Read, wordAt}
+use Rattle.layout.specs.Layout.{stopAt}
+use Rattle.trees.specs.Record.{locationAt}
+use Rattle.trees.specs.Tree.{Location, CompoundField}
 use Rattle.fallible.specs.declared.Error.{Error}
 use Rattle.fallible.specs.Operands.{isTypeOperand, operandSort}
 use Rattle.meaning.specs.TypeError.{TypeError, plain, row, unused, unless, noSuchCompoundField, fieldTwice}
@@ -83,12 +83,12 @@ module _ (s : List ℕ) (stop : ℕ) where
 -- Errors at a field are errors at its record
 
 fits-at : (l m : Location) → l .file ≡ m .file → l .line ≡ m .line → l .column ≡ m .column → (name : ℕ) (found : Option Ty) (v : Ty) → fieldFits l name found v ≡ fieldFits m name found v
-fits-at l m pf pl pc name none v = λ i. record { kind = 27; file = pf i; line = pl i; column = pc i; first = plain name; second = unused; third = unused } ∷ []
+fits-at l m pf pl pc name none v = λ i. record { kind = 27; file = pf i; line = pl i; column = pc i; first = plain name; second = unused; third = unused; place = 0 } ∷ []
 fits-at l m pf pl pc name (some t) v =
-    λ i. unless (typesAreAssignable t v) (record { kind = 8; file = pf i; line = pl i; column = pc i; first = row t; second = row v; third = unused })
+    λ i. unless (typesAreAssignable t v) (record { kind = 8; file = pf i; line = pl i; column = pc i; first = row t; second = row v; third = unused; place = 0 })
 
 pub twice-at : (l m : Location) → l .file ≡ m .file → l .line ≡ m .line → l .column ≡ m .column → (name : ℕ) (b : Bool) → unless b (fieldTwice l name) ≡ unless b (fieldTwice m name)
-twice-at l m pf pl pc name b = λ i. unless b (record { kind = 29; file = pf i; line = pl i; column = pc i; first = plain name; second = unused; third = unused })
+twice-at l m pf pl pc name b = λ i. unless b (record { kind = 29; file = pf i; line = pl i; column = pc i; first = plain name; second = unused; third = unused; place = 0 })
 
 fits-first : (ctx : Context) (fields : List CompoundField) (at : ℕ) (cells : Ty) (s : List ℕ) (stop : ℕ) → FieldsAt s stop fields at → at < stop
     → fieldFits (locationAt s at) (wordAt s (at + 16)) (fieldNamed (wordAt s (at + 16)) cells) (firstType ctx fields)

@@ -10,10 +10,10 @@ use borrow.Author.Tests.{eq-eqb, ne-eqb}
 use Rattle.types.specs.Ty.{Ty, kindOf, firstOf, desugar, structKind}
 use Rattle.types.specs.Table.{unfolded}
 use Rattle.types.specs.Post.{TypePart}
-use Rattle.node.specs.Bytes.{Read, wordAt}
-use Rattle.node.specs.Layout.{stopAt}
-use Rattle.node.specs.Record.{locationAt}
-use Rattle.node.specs.Tree.{CompoundField}
+use Rattle.record_bytes.specs.Bytes.{Read, wordAt}
+use Rattle.layout.specs.Layout.{stopAt}
+use Rattle.trees.specs.Record.{locationAt}
+use Rattle.trees.specs.Tree.{CompoundField}
 use Rattle.fallible.specs.declared.Error.{Error}
 use Rattle.fallible.specs.Operands.{isTypeOperand, operandSort}
 use Rattle.meaning.specs.TypeError.{TypeError, unless, structCompoundTarget, fieldTwice}

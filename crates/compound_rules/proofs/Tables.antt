@@ -8,8 +8,8 @@ use lib.Dec.{eqb, leb}
 use lib.ListN.{length, getD, set, replicate, length-set, length-replicate, getD-replicate}
 use lib.Seq.{set-out, getD-set-same, getD-set-other}
 use borrow.Author.Tests.{eqb-true, eqb-false, leb-true, leb-false, le-leb, lt-leb}
-use Rattle.node.specs.Bytes.{Read, wordAt}
-use Rattle.node.specs.Tree.{CompoundField}
+use Rattle.record_bytes.specs.Bytes.{Read, wordAt}
+use Rattle.trees.specs.Tree.{CompoundField}
 use Rattle.meaning.specs.Compound.{occurrences}
 use Rattle.call_rules.specs.Lists.{RecordsListed, Chain}
 use Rattle.call_rules.proofs.Chains.{first, next-place}

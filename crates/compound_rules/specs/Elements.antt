@@ -2,7 +2,7 @@
 use Prim.Native.Nat.{ℕ}
 use mathlib.Core.List.{List}
 use Rattle.types.specs.Table.{unfolded}
-use Rattle.node.specs.Record.{locationAt}
+use Rattle.trees.specs.Record.{locationAt}
 use Rattle.meaning.specs.Compound.{elementErrors, arrayErrors}
 use Rattle.walk.specs.declared.State.{State}
 use Rattle.expression_rules.specs.Rules.{Checks}

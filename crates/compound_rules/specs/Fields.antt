@@ -7,10 +7,10 @@ use lib.ListN.{length, getD, set}
 use lib.Dec.{leb}
 use Rattle.types.specs.Ty.{Ty, firstOf, fieldNamed}
 use Rattle.types.specs.Table.{unfolded}
-use Rattle.node.specs.Bytes.{halfAt, wordAt, headEnd, fieldEnd}
-use Rattle.node.specs.Layout.{stopAt}
-use Rattle.node.specs.Record.{locationAt}
-use Rattle.node.specs.Tree.{CompoundField}
+use Rattle.record_bytes.specs.Bytes.{halfAt, wordAt, headEnd, fieldEnd}
+use Rattle.layout.specs.Layout.{stopAt}
+use Rattle.trees.specs.Record.{locationAt}
+use Rattle.trees.specs.Tree.{CompoundField}
 use Rattle.meaning.specs.TypeError.{TypeError}
 use Rattle.meaning.specs.Context.{Context, each}
 use Rattle.meaning.specs.Expression.{expressionType}

@@ -11,8 +11,8 @@ use Rattle.types.specs.declared.Row.the-variants.{Field}
 use Rattle.types.proofs.Grow.{extends-type}
 use Rattle.shape.specs.declared.Holds.the-variants.{Fields}
 use Rattle.node.specs.Fine.{FineNodes}
-use Rattle.node.specs.declared.fine.Nodes.{Nodes}
-use Rattle.node.proofs.Cases.{by-number}
+use Rattle.node.specs.declared.Nodes.{Nodes}
+use Rattle.shape.proofs.Cases.{by-number}
 use Rattle.walk.specs.declared.State.{State}
 use Rattle.walk.specs.declared.Typed.{Typed}
 use Rattle.walk.specs.Represents.{Lent, lent}

@@ -9,7 +9,7 @@ use Rattle.types.specs.declared.Row.{Row}
 use Rattle.types.specs.declared.Row.the-variants.{Field}
 use Rattle.shape.specs.declared.Holds.the-variants.{Fields}
 use Rattle.node.specs.Fine.{FineNodes}
-use Rattle.node.specs.declared.fine.Nodes.{Nodes}
+use Rattle.node.specs.declared.Nodes.{Nodes}
 use Rattle.walk.specs.declared.Typed.{Typed}
 use Rattle.walk.specs.Represents.{Lent, lent}
 use Rattle.walk.specs.Cells.{CellsMade}

@@ -1,19 +1,19 @@
 // `convert_node_type`: type records to type rows.
 use fallible::Error;
 use fallible::kinds::UNKNOWN_TYPE;
-use node::bytes::COLUMN;
-use node::bytes::FIELD_END;
-use node::bytes::FIELDS_END;
-use node::bytes::FILE;
-use node::bytes::HEAD_END;
-use node::bytes::KIND;
-use node::bytes::LINE;
-use node::bytes::half;
-use node::bytes::length_at;
-use node::bytes::word;
-use node::fine::Node;
-use node::fine::Nodes;
-use node::names::BuiltIns;
+use names::BuiltIns;
+use node::Node;
+use node::Nodes;
+use record_bytes::COLUMN;
+use record_bytes::FIELD_END;
+use record_bytes::FIELDS_END;
+use record_bytes::FILE;
+use record_bytes::HEAD_END;
+use record_bytes::KIND;
+use record_bytes::LINE;
+use record_bytes::half;
+use record_bytes::length_at;
+use record_bytes::word;
 use shape::kinds::ARRAY_TYPE;
 use shape::kinds::NAMED_TYPE;
 use shape::kinds::POINTER_TYPE;
@@ -32,9 +32,9 @@ ghost use Rattle.types.specs.Post.{PartsOk};
 ghost use Rattle.shape.specs.Kinds as kinds;
 ghost use Rattle.shape.specs.Shape.{aType};
 ghost use Rattle.shape.specs.declared.Holds.the-variants.{Fields};
-ghost use Rattle.node.specs.Bytes.{wordAt, headEnd, fieldEnd, fieldsEnd};
-ghost use Rattle.node.specs.Names.{nameCount};
-ghost use Rattle.node.specs.Layout.{kindAt};
+ghost use Rattle.record_bytes.specs.Bytes.{wordAt, headEnd, fieldEnd, fieldsEnd};
+ghost use Rattle.names.specs.Names.{nameCount};
+ghost use Rattle.layout.specs.Layout.{kindAt};
 ghost use Rattle.node.specs.Fine.{FineNode, FineNodes};
 ghost use Rattle.meaning.specs.Promise.{workWidth};
 ghost use Rattle.walk.specs.Words.{slotEnd};
@@ -68,7 +68,7 @@ pub struct FieldHead {
     pub next: usize,
 }
 
-// An error at the record at `at`.
+// An error at the record at `at`, other than a bad literal's.
 pub fn error_at(s: &[u8], at: usize, kind: u32, first: u32, second: u32, third: u32) -> Error
     requires { ⌜ headEnd at ≤ length (now s) ⌝ }
     ensures { λ r. ⌜ r ≡ errorFor (old s) at kind first second third ⌝ }
@@ -81,6 +81,7 @@ pub fn error_at(s: &[u8], at: usize, kind: u32, first: u32, second: u32, third: 
         first,
         second,
         third,
+        place: 0,
     }
 }
 

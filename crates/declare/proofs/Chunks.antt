@@ -11,11 +11,11 @@ use Rattle.types.specs.Table.{IsType}
 use Rattle.types.specs.declared.Row.the-variants.{Argument}
 use Rattle.types.proofs.Grow.{extends-type}
 use Rattle.shape.specs.declared.Holds.the-variants.{Parameters}
-use Rattle.node.specs.Record.{parametersAt}
+use Rattle.trees.specs.Record.{parametersAt}
 use Rattle.node.specs.Fine.{FineNodes}
-use Rattle.node.specs.declared.fine.Nodes.{Nodes}
-use Rattle.node.specs.declared.names.BuiltIns.{BuiltIns}
-use Rattle.node.proofs.Cases.{by-number}
+use Rattle.node.specs.declared.Nodes.{Nodes}
+use Rattle.names.specs.declared.BuiltIns.{BuiltIns}
+use Rattle.shape.proofs.Cases.{by-number}
 use Rattle.walk.specs.declared.State.{State}
 use Rattle.walk.specs.declared.Typed.{Typed}
 use Rattle.walk.specs.Represents.{Lent, lent}

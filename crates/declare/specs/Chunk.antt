@@ -7,10 +7,10 @@ use Rattle.types.specs.Table.{IsType}
 use Rattle.types.specs.declared.Row.{Row}
 use Rattle.types.specs.declared.Row.the-variants.{Argument}
 use Rattle.shape.specs.declared.Holds.the-variants.{Parameters}
-use Rattle.node.specs.Record.{parametersAt}
+use Rattle.trees.specs.Record.{parametersAt}
 use Rattle.node.specs.Fine.{FineNodes}
-use Rattle.node.specs.declared.fine.Nodes.{Nodes}
-use Rattle.node.specs.declared.names.BuiltIns.{BuiltIns}
+use Rattle.node.specs.declared.Nodes.{Nodes}
+use Rattle.names.specs.declared.BuiltIns.{BuiltIns}
 use Rattle.walk.specs.declared.Typed.{Typed}
 use Rattle.walk.specs.Represents.{Lent, lent}
 use Rattle.walk.specs.Cells.{CellsMade}

@@ -12,13 +12,14 @@ use Rattle.types.specs.Table.{rowWidth, unfolded}
 use Rattle.types.proofs.Laws.{injective}
 use Rattle.fallible.specs.Outcome.{refused, accepted, orNext, firstRefusing, outcomeAfter}
 use Rattle.fallible.specs.Errors.{errorWidth}
-use Rattle.node.specs.Layout.{layoutOf, layoutRefusal}
-use Rattle.node.specs.Names.{namesOf, repeatedName, nameRefusal}
-use Rattle.node.specs.declared.names.Repeated.{Repeated}
-use Rattle.node.specs.declared.names.Repeated.the-variants.{Nowhere, At}
-use Rattle.node.proofs.LayoutLaws.{only-good}
+use Rattle.layout.specs.Layout.{layoutOf, layoutRefusal}
+use Rattle.names.specs.Names.{namesOf, repeatedName, nameRefusal}
+use Rattle.names.specs.declared.Repeated.{Repeated}
+use Rattle.names.specs.declared.Repeated.the-variants.{Nowhere, At}
+use Rattle.layout.proofs.LayoutLaws.{only-good}
 use Rattle.meaning.specs.Promise.{workWidth, Counts, countsOf, Lengths, lengthsOf, refuseIf, tests, answerOf}
 use Rattle.meaning.specs.JoiningOrder.{Run, Meets}
+use Rattle.meaning.proofs.Passed.{no-if}
 use Rattle.meaning.proofs.Whole.{joining-order}
 use Rattle.demands.proofs.Others.{others}
 use Rattle.demands.specs.Demands.{Fits, TurnedBack, Demand1, Demand2, Demand3, DemandsOfOne, Demands}
@@ -31,10 +32,6 @@ no-name : (r : Repeated) → nameRefusal r ≡ none → r ≡ Nowhere
 unfolding nameRefusal
 no-name Nowhere e = refl
 no-name (At p) e = never e
-
-no-if : (b : Bool) (n : ℕ) → refuseIf b n ≡ none → b ≡ false
-no-if true n e = never e
-no-if false n e = refl
 
 first-none : (a b : Option (ℕ × ℕ)) → orNext a b ≡ none → a ≡ none
 first-none none b e = refl

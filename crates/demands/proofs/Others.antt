@@ -9,11 +9,11 @@ use lib.Dec.{ltb}
 use lib.ListN.{length, getD, take, drop, length-take, length-drop}
 use lib.Seq.{getD-take, getD-drop}
 use borrow.Author.Tests.{ltb-true, ltb-false}
-use Rattle.node.specs.Bytes.{byteAt, wordAt}
-use Rattle.node.specs.Names.{namesEnd, itemPlaces, itemBytes}
-use Rattle.node.specs.Layout.{layoutOf}
-use Rattle.node.specs.Record.{itemSlotPlaces}
-use Rattle.node.specs.declared.layout.Layout.the-variants.{Good}
+use Rattle.record_bytes.specs.Bytes.{byteAt, wordAt}
+use Rattle.names.specs.Names.{namesEnd, itemPlaces, itemBytes}
+use Rattle.layout.specs.Layout.{layoutOf}
+use Rattle.trees.specs.Record.{itemSlotPlaces}
+use Rattle.layout.specs.declared.Layout.the-variants.{Good}
 use Rattle.meaning.specs.Promise.{Counts, Buffers, Accepted, inSlot, itemPlace, itemAt}
 use Rattle.meaning.proofs.Size.{Consecutive, items-follow}
 use Rattle.demands.specs.Demands.{SlotByte}

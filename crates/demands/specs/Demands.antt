@@ -12,15 +12,15 @@ use Rattle.contract.specs.Moments.{old}
 use Rattle.types.specs.Table.{rowWidth, unfolded}
 use Rattle.fallible.specs.Outcome.{Outcome, refused, accepted, firstRefusing}
 use Rattle.fallible.specs.Errors.{errorWidth}
-use Rattle.node.specs.Bytes.{byteAt}
-use Rattle.node.specs.Layout.{layoutOf}
-use Rattle.node.specs.Names.{namesOf, repeatedName}
-use Rattle.node.specs.Record.{itemTree, itemSlotPlaces}
-use Rattle.node.specs.declared.layout.Layout.the-variants.{Good}
-use Rattle.node.specs.declared.names.Repeated.the-variants.{Nowhere}
+use Rattle.record_bytes.specs.Bytes.{byteAt}
+use Rattle.layout.specs.Layout.{layoutOf}
+use Rattle.names.specs.Names.{namesOf, repeatedName}
+use Rattle.trees.specs.Record.{itemTree, itemSlotPlaces}
+use Rattle.layout.specs.declared.Layout.the-variants.{Good}
+use Rattle.names.specs.declared.Repeated.the-variants.{Nowhere}
 use Rattle.meaning.specs.Module.{itemTypes}
 use Rattle.meaning.specs.Promise.{workWidth, Counts, countsOf, Buffers, Lengths, lengthsOf, tests, wiped, Accepted}
-use Rattle.meaning.specs.Promise.{contextOf, errorsOf, errorListOf, itemCount, itemPlace, itemAt, outputAt, inSlot, slotTypes}
+use Rattle.meaning.specs.Promise.{contextOf, placedErrorsOf, errorListOf, itemCount, itemPlace, itemAt, outputAt, inSlot, slotTypes}
 use Rattle.meaning.specs.JoiningOrder.{Run, AnotherOrder, Supposed, SameOutcome}
 use Rattle.type_check.specs.Post.{buffersBefore, buffersAfter}
 
@@ -64,9 +64,9 @@ pub record Demand1 (run : Run) : Type 0 where
   pub otherwise : (Fits (run .input) (lengthsOf (run .before)) → ⊥) → TurnedBack run
 
 -- Demand 2. "Literals follow the standard library's page for u16::from_str_radix, all else 01's typing rules": the errors in their order, and the
--- type of each slot, are those of the typing rules (`errorsOf`, `itemTypes`; literals by `fromStrRadix`)
+-- type of each slot, are those of the typing rules (`placedErrorsOf`, `itemTypes`; literals by `fromStrRadix`)
 pub record Demand2 (run : Run) (counts : Counts) : Type 0 where
-  pub errors : errorListOf (run .after .rows) (run .after .errors) (counts .errors) ≡ errorsOf (run .input)
+  pub errors : errorListOf (run .after .rows) (run .after .errors) (counts .errors) ≡ placedErrorsOf (run .input)
   pub types : (i : ℕ) → i < itemCount (run .input)
       → slotTypes (run .after .rows) (outputAt (run .input) (run .after .output) i) (itemSlotPlaces (itemAt (run .input) i))
       ≡ itemTypes (contextOf (run .input)) (itemTree (itemAt (run .input) i))

@@ -11,18 +11,18 @@ use borrow.Author.Tests.{eqb-true, eqb-false, ne-eqb}
 use Rattle.shape.specs.Shape.{aStatement, anExpression, dueIn}
 use Rattle.shape.specs.declared.Holds.the-variants.{Statements}
 use Rattle.shape.proofs.ShapeLaws.{statement-kind as statement-range}
-use Rattle.node.specs.Bytes.{wordAt}
-use Rattle.node.specs.Layout.{kindAt, stopAt, maxBytes}
+use Rattle.record_bytes.specs.Bytes.{wordAt}
+use Rattle.layout.specs.Layout.{kindAt, stopAt, maxBytes}
 use Rattle.node.specs.Fine.{FineRecord, FineList, FineNode, FineNodes, insideOf, childrenOf}
-use Rattle.node.specs.declared.fine.Node.{Node}
-use Rattle.node.specs.declared.fine.Nodes.{Nodes}
-use Rattle.node.specs.declared.fine.Entered.{Entered}
-use Rattle.node.specs.Record.{statementAt, statementsAt}
-use Rattle.node.specs.Tree.{Statement, block, expression, variableDeclaration, assignment, compoundAssignment, return, loop, while, break, «if», ifElse, inlineAssembly, noStatements, statementThen}
+use Rattle.node.specs.declared.Node.{Node}
+use Rattle.node.specs.declared.Nodes.{Nodes}
+use Rattle.node.specs.declared.Entered.{Entered}
+use Rattle.trees.specs.Record.{statementAt, statementsAt}
+use Rattle.trees.specs.Tree.{Statement, block, expression, variableDeclaration, assignment, compoundAssignment, return, loop, while, break, «if», ifElse, inlineAssembly, noStatements, statementThen}
 use Rattle.node.proofs.Open.{opened, SplitOne, split-may}
-use Rattle.node.proofs.Decode.{fine-in, fine-wide}
+use Rattle.trees.proofs.Decode.{fine-in, fine-wide}
 use Rattle.meaning.specs.Divergence.{findBreak, doAllPathsDiverge}
-use Rattle.node.proofs.Statements.{secondAt, thirdAt, statements-cons, statements-end, no-statements, more-statements, statement-block, statement-loop, statement-while, statement-break, statement-return, statement-if, if-only, if-else, IfAt, IfElseAt, statementKind, kind-of}
+use Rattle.trees.proofs.Statements.{secondAt, thirdAt, statements-cons, statements-end, no-statements, more-statements, statement-block, statement-loop, statement-while, statement-break, statement-return, statement-if, if-only, if-else, IfAt, IfElseAt, statementKind, kind-of}
 use Rattle.divergence.specs.InnerStatements.{innerStatements, InnerOf}
 
 -- A break is the statement itself or in what it holds

@@ -1,15 +1,15 @@
 // `do_all_paths_diverge`: whether no path through a statement goes on after it. `find_break` is `find_statement`,
 // looking for a break.
-use node::bytes::FIELD_END;
-use node::bytes::HEAD_END;
-use node::bytes::KIND;
-use node::bytes::half;
-use node::bytes::length_at;
-use node::fine::Entered;
-use node::fine::Node;
-use node::fine::Nodes;
-use node::fine::children;
-use node::fine::inside;
+use node::Entered;
+use node::Node;
+use node::Nodes;
+use node::children;
+use node::inside;
+use record_bytes::FIELD_END;
+use record_bytes::HEAD_END;
+use record_bytes::KIND;
+use record_bytes::half;
+use record_bytes::length_at;
 use shape::kinds::BLOCK;
 use shape::kinds::BREAK;
 use shape::kinds::IF_STATEMENT;
@@ -20,9 +20,9 @@ ghost use mathlib.Core.Path.{_≡_};
 ghost use Rattle.contract.specs.Moments.{old};
 ghost use Rattle.shape.specs.Shape.{aStatement};
 ghost use Rattle.shape.specs.declared.Holds.the-variants.{Statements};
-ghost use Rattle.node.specs.Layout.{kindAt, stopAt};
+ghost use Rattle.layout.specs.Layout.{kindAt, stopAt};
 ghost use Rattle.node.specs.Fine.{FineNode, FineNodes};
-ghost use Rattle.node.specs.Record.{statementAt, statementsAt};
+ghost use Rattle.trees.specs.Record.{statementAt, statementsAt};
 ghost use Rattle.meaning.specs.Divergence.{findBreak, doAllPathsDiverge};
 ghost use Rattle.divergence.specs.InnerStatements.{InnerOf, headOf};
 

@@ -2,8 +2,6 @@
 // why it is turned back.
 use fallible::ERROR_WIDTH;
 use libc::STDIN_FILENO;
-use node::bytes::FIELD;
-use node::bytes::word;
 use program_support::loans;
 use program_support::print::BUFFER;
 use program_support::print::flush;
@@ -14,6 +12,8 @@ use program_support::print::put_word;
 use program_support::print::put_words;
 use program_support::slots::next_record;
 use program_support::slots::slot_place;
+use record_bytes::FIELD;
+use record_bytes::word;
 use rows::ROW_WIDTH;
 use type_check::Answer;
 
@@ -63,7 +63,7 @@ fn put_slots(buffer: &mut [u8], used: usize, output: &[u8]) -> usize {
     held
 }
 
-// `error KIND FILE LINE COLUMN A B C`
+// `error KIND FILE LINE COLUMN A B C PLACE`
 fn put_error(buffer: &mut [u8], used: usize, errors: &[u32], i: usize) -> usize {
     if errors.len() / ERROR_WIDTH <= i {
         return used;

@@ -11,12 +11,12 @@ use mathlib.Core.List.{List, [], _∷_}
 use Rattle.types.specs.Table.{rowWidth}
 use Rattle.fallible.specs.Outcome.{accepted, orNext, firstRefusing, outcomeAfter}
 use Rattle.fallible.specs.Errors.{errorWidth}
-use Rattle.node.specs.Layout.{layoutOf, layoutRefusal}
-use Rattle.node.specs.Names.{namesOf, repeatedName, nameRefusal}
-use Rattle.node.specs.declared.layout.Layout.{Layout}
-use Rattle.node.specs.declared.layout.Layout.the-variants.{Good, TooLong, Fault, TooDeep}
-use Rattle.node.specs.declared.names.Repeated.{Repeated}
-use Rattle.node.specs.declared.names.Repeated.the-variants.{Nowhere, At}
+use Rattle.layout.specs.Layout.{layoutOf, layoutRefusal}
+use Rattle.names.specs.Names.{namesOf, repeatedName, nameRefusal}
+use Rattle.layout.specs.declared.Layout.{Layout}
+use Rattle.layout.specs.declared.Layout.the-variants.{Good, TooLong, Fault, TooDeep}
+use Rattle.names.specs.declared.Repeated.{Repeated}
+use Rattle.names.specs.declared.Repeated.the-variants.{Nowhere, At}
 use Rattle.meaning.specs.Promise.{workWidth, Counts, Lengths, Buffers, Checked, answerOf, countsOf, refuseIf}
 use Rattle.type_check.specs.Post.{outcomeOf}
 use Rattle.type_check.specs.declared.Answer.{Answer}

@@ -9,6 +9,8 @@ use Rattle.relations.specs.WordSize.{asWord}
 use Rattle.relations.specs.declared.WordSize.{WordSize}
 use Rattle.queries.specs.Entry.{Answers, Measures}
 use Rattle.queries.specs.declared.CastSearch.{CastSearch}
+use Rattle.error_messages.specs.Description.{Inputs}
+use Rattle.error_messages.specs.Messages.{Loan, Answered}
 
 -- The number of the refusal, or 0
 abbrev pub refusalNumber : {A : Type 0} → Outcome A → ℕ
@@ -43,6 +45,16 @@ replyOf o = reply (refusalNumber o) (valueOf (λ c. c .rows) o) (valueOf (λ c. 
 pub record ModuleTold (input : List ℕ) (before after : Buffers) (t : Reply) : Type 0 where
   pub checked : Checked input before after (answerOf input (lengthsOf before))
   pub tells : t ≡ replyOf (answerOf input (lengthsOf before))
+
+-- The length of a text that is written
+abbrev pub textLength : ℕ → ℕ
+textLength length = length
+
+-- The promise of messages holds of an outcome, which is told by its number, the length of the text and the place
+pub record MessagesTold (x : Inputs) (errors : List ℕ) (many : ℕ) (before after : Loan) (number length place : ℕ) : Type 0 where
+  pub outcome : Outcome ℕ
+  pub answers : Answered x errors many before after outcome
+  pub tells : (number ≡ refusalNumber outcome) × (length ≡ valueOf textLength outcome) × (place ≡ refusalPlace outcome)
 
 -- Yes is 1, no is 0
 abbrev pub asNumber : Bool → ℕ

@@ -15,8 +15,9 @@ ghost use Rattle.relations.specs.WordSize.{asWord};
 ghost use Rattle.queries.specs.CastSearch.{castSearch};
 ghost use Rattle.queries.specs.Entry.{answeredOf, searchedOf, measuredOf};
 ghost use Rattle.type_check.specs.Post.{buffersBefore, buffersAfter};
+ghost use Rattle.error_messages.specs.Inner.{oldInputs, loanBefore, loanAfter, outcomeOf as textOutcome};
 ghost use Rattle.exports.specs.Replies.{ModuleTold, AnswerTold, CastTold, SizeTold, reply, refusalNumber, valueOf};
-ghost use Rattle.exports.specs.Replies.{asNumber, fitsNumber, pairsNumber};
+ghost use Rattle.exports.specs.Replies.{MessagesTold, textLength, refusalPlace, asNumber, fitsNumber, pairsNumber};
 
 // Checks a module: `type_check_module` of the crate type_check.
 #[no_mangle]
@@ -53,6 +54,58 @@ pub extern "C" fn delta_null_type_check_module(
             number
         }
     }
+}
+
+// The number of an answer of messages, with the length of the text or the place of the refusal.
+fn put_length(given: error_messages::Answer, length: &mut usize, place: &mut usize) -> u32
+    ensures { λ r. ⌜ (r ≡ refusalNumber (textOutcome given))
+        × (final length ≡ valueOf textLength (textOutcome given))
+        × (final place ≡ refusalPlace (textOutcome given)) ⌝ }
+{
+    match given {
+        error_messages::Answer::Written(written) => {
+            *length = written;
+            *place = 0;
+            0
+        }
+        error_messages::Answer::Refused { number, place: at } => {
+            *length = 0;
+            *place = at;
+            number
+        }
+    }
+}
+
+// The messages of a module's errors: `messages` of the crate error_messages. The module is the input, as it was read.
+#[no_mangle]
+pub extern "C" fn delta_null_messages<'a>(
+    input: &'a [u8],
+    rows: &[u32],
+    row_count: u32,
+    errors: &[u32],
+    error_count: usize,
+    built_in: &'a [u8],
+    work: &mut [u32],
+    text: &mut [u8],
+    length: &mut usize,
+    place: &mut usize,
+) -> u32
+    ensures { λ r. ⌜ MessagesTold (oldInputs input «built_in» rows «row_count») (old errors) «error_count»
+        (loanBefore text work)
+        (loanAfter text work)
+        r (final length) (final place) ⌝ }
+{
+    let given = error_messages::messages(
+        input,
+        rows,
+        row_count,
+        errors,
+        error_count,
+        built_in,
+        work,
+        text,
+    );
+    put_length(given, length, place)
 }
 
 // Yes is 1, no is 0.

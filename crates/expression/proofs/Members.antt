@@ -8,12 +8,12 @@ use native.Mathlib.Omega.{arith}
 use Rattle.types.specs.Table.{IsType}
 use Rattle.types.proofs.Grow.{extends-type}
 use Rattle.shape.specs.declared.Holds.{Holds}
-use Rattle.node.specs.Bytes.{wordAt}
-use Rattle.node.specs.Layout.{stopAt}
+use Rattle.record_bytes.specs.Bytes.{wordAt}
+use Rattle.layout.specs.Layout.{stopAt}
 use Rattle.node.specs.Fine.{FineList}
-use Rattle.node.specs.Tree.{Expression}
-use Rattle.node.specs.Record.{expressionAt}
-use Rattle.node.specs.declared.names.BuiltIns.{BuiltIns}
+use Rattle.trees.specs.Tree.{Expression}
+use Rattle.trees.specs.Record.{expressionAt}
+use Rattle.names.specs.declared.BuiltIns.{BuiltIns}
 use Rattle.meaning.specs.TypeError.{TypeError}
 use Rattle.meaning.specs.Context.{Context}
 use Rattle.meaning.specs.Convert.{Slot}

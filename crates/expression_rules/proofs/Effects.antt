@@ -1,20 +1,20 @@
 -- What is promised in words, as an effect on what the lent words stand for: what callers use of the rules. Assumes nothing.
 use Prim.Native.Nat.{ℕ, _+_, _*_, _≤_}
-use mathlib.Core.Path.{_≡_, refl, sym, ap, _∙_, subst}
-use mathlib.Core.Bool.{Bool, true, false, not}
+use mathlib.Core.Path.{_≡_, refl, sym, ap, subst}
+use mathlib.Core.Bool.{Bool, true, false}
 use mathlib.Core.List.{List}
 use native.Mathlib.Omega.{arith}
 use lib.Dec.{eqb}
 use lib.ListN.{length}
 use borrow.Author.Tests.{eqb-true, eqb-false, ne-eqb}
 use Rattle.types.specs.Ty.{Ty, pointer, u16}
-use Rattle.types.specs.Table.{unfolded, IsType}
+use Rattle.types.specs.Table.{IsType}
 use Rattle.types.proofs.Grow.{extends-type}
 use Rattle.types.proofs.Fixed.{fixed-is}
-use Rattle.node.specs.Bytes.{wordAt}
-use Rattle.node.specs.Record.{locationAt}
+use Rattle.record_bytes.specs.Bytes.{wordAt}
+use Rattle.trees.specs.Record.{locationAt}
 use Rattle.meaning.specs.TypeError.{TypeError, unless, unknownIdentifier}
-use Rattle.meaning.specs.Context.{isSome, orUnknown, resolveIdentifier}
+use Rattle.meaning.specs.Context.{orUnknown, resolveIdentifier}
 use Rattle.meaning.specs.Expression.{checkAssignable}
 use Rattle.walk.specs.declared.State.{State}
 use Rattle.walk.specs.declared.Typed.{Typed}
@@ -25,7 +25,7 @@ use Rattle.walk.proofs.Laws.{typing-later}
 use Rattle.walk.proofs.Walks.{typing-u16, walked-make, walked-to-room, made-type}
 use Rattle.walk.proofs.Telling.{tells-rows, walked-tells}
 use Rattle.types.specs.declared.Row.the-variants.{Pointer}
-use Rattle.expression_rules.specs.Words.{orUnknownRow, resolvedWord}
+use Rattle.expression_rules.specs.Words.{resolvedWord}
 use Rattle.expression_rules.specs.Rules.{Operands, identifierErrors, integerErrors, digitsAt, unaryType, unaryErrors, unaryEffect, binaryType, binaryErrors, castErrors, rowTypes}
 use Rattle.expression_rules.specs.Rules.{GivesRow, Identifier, Integer, Unary, UnaryKept, Binary, Cast, CheckAssignable, One, Two, Gives, Checks}
 use Rattle.expression_rules.proofs.Found.{found-test, found-shown, resolved-is, resolved-found}

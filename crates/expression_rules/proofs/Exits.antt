@@ -2,11 +2,11 @@
 use Prim.Native.Nat.{ℕ, _+_, _-_, _<_}
 use mathlib.Core.Path.{_≡_, refl, sym, ap, _∙_, subst}
 use mathlib.Core.Bool.{Bool, true, false, not, or-false, true≢false}
-use mathlib.Core.List.{List, [], _∷_, _++_}
+use mathlib.Core.List.{List}
 use mathlib.Core.Option.{Option}
 use native.Mathlib.Omega.{arith}
 use lib.Dec.{eqb}
-use lib.ListN.{length, take, drop}
+use lib.ListN.{take, drop}
 use borrow.Author.Tests.{eq-eqb, ne-eqb}
 use Rattle.types.specs.Ty.{Ty, kindOf, firstOf, is, isIntegral, same, desugar, fieldNamed, boolKind, u16Kind, pointerKind, arrayKind}
 use Rattle.types.specs.Table.{unfolded}
@@ -19,8 +19,8 @@ use Rattle.relations.proofs.CastLaws.{same-rows}
 use Rattle.literal.specs.Literal.{fromStrRadix, parsedValue}
 use Rattle.literal.specs.declared.Parsed.{Parsed}
 use Rattle.literal.specs.declared.Parsed.the-variants.{Value, Invalid}
-use Rattle.node.specs.Bytes.{Read, wordAt}
-use Rattle.node.specs.Record.{locationAt}
+use Rattle.record_bytes.specs.Bytes.{Read, halfAt, wordAt}
+use Rattle.trees.specs.Record.{locationAt}
 use Rattle.fallible.specs.declared.Error.{Error}
 use Rattle.fallible.specs.Operands.{isTypeOperand, operandSort}
 use Rattle.meaning.specs.TypeError.{row, error, unused, unless}
@@ -33,7 +33,7 @@ use Rattle.walk.specs.Post.{Reported, Makes, Tells}
 use Rattle.walk.proofs.Telling.{tells-one, tells-then, tells-rows}
 use Rattle.convert.specs.Post.{errorFor}
 use Rattle.expression_rules.specs.Words.{orUnknownRow, resolvedWord}
-use Rattle.expression_rules.specs.Rules.{ReportedUnless, Identifier, Integer, digitsAt, Unary, UnaryKept, Binary, Arithmetic, Cast, CheckAssignable}
+use Rattle.expression_rules.specs.Rules.{ReportedUnless, Identifier, literalError, Integer, digitsAt, Unary, UnaryKept, Binary, Arithmetic, Cast, CheckAssignable}
 use Rattle.expression_rules.proofs.Laws.{spells-at, tells-unless, tells-row, reported-none, reported-one}
 use Rattle.expression_rules.proofs.Found.{unknown-shown, found-test, found-shown}
 
@@ -222,6 +222,11 @@ identified s work at e e′ st st′ name en found ef rep r er =
     }
 
 -- A literal
+pub literal-error : (s : List ℕ) (at f l col p : ℕ) → Read (halfAt s (at + 6)) 16 f → Read (wordAt s (at + 8)) 32 l → Read (wordAt s (at + 12)) 32 col → p ≡ at
+    → record { kind = 23; file = f; line = l; column = col; first = 0; second = 0; third = 0; place = p } ≡ literalError s at
+literal-error s at f l col p rf rl rc ep =
+    λ i. record { kind = 23; file = rf .is i; line = rl .is i; column = rc .is i; first = 0; second = 0; third = 0; place = ep i }
+
 module _ (s : List ℕ) (at base : ℕ) (eb : Read (wordAt s (at + 20)) 32 base) (len : ℕ) (el : Read (wordAt s at) 32 len)
     (parsed : Parsed) (ep : parsedValue parsed ≡ fromStrRadix base (take (at + len - (at + 24)) (drop (at + 24) s))) (e : List ℕ) (st : State) where
   read : parsedValue parsed ≡ fromStrRadix (wordAt s (at + 20)) (digitsAt s at)
@@ -229,18 +234,19 @@ module _ (s : List ℕ) (at base : ℕ) (eb : Read (wordAt s (at + 20)) 32 base)
       ep ∙ ap (λ (n : ℕ). fromStrRadix n (take (at + len - (at + 24)) (drop (at + 24) s))) (eb .is)
       ∙ ap (λ (n : ℕ). fromStrRadix (wordAt s (at + 20)) (take (at + n - (at + 24)) (drop (at + 24) s))) (el .is)
 
-  judged : (b : Bool) → b ≡ isSome (parsedValue parsed) → (e′ : List ℕ) (st′ : State) → ReportedUnless b (errorFor s at 23 0 0 0) e st e′ st′ → Integer s at e st e′ (record { ty = 4; state = st′ })
+  judged : (b : Bool) → b ≡ isSome (parsedValue parsed) → (e′ : List ℕ) (st′ : State) → ReportedUnless b (literalError s at) e st e′ st′ → Integer s at e st e′ (record { ty = 4; state = st′ })
   unfolding SpellsOperand isTypeOperand operandSort
   judged b q e′ st′ rep =
       record {
         row = refl;
         tells = λ w.
-            tells-unless (isSome (fromStrRadix (wordAt s (at + 20)) (digitsAt s at))) (q ∙ ap isSome read) rep (spells-at s at 23 (refl, refl) (refl, refl) (refl, refl));
+            tells-unless (isSome (fromStrRadix (wordAt s (at + 20)) (digitsAt s at))) (q ∙ ap isSome read) rep
+            (record { kind = refl; file = refl; line = refl; column = refl; first = (refl, refl); second = (refl, refl); third = (refl, refl); place = refl });
       }
 
   pub literal-read : (v : ℕ) → parsed ≡ Value v → Integer s at e st e (record { ty = 4; state = st })
-  literal-read v q = judged true (sym (ap (λ (p : Parsed). isSome (parsedValue p)) q)) e st (reported-none true (errorFor s at 23 0 0 0) e st refl)
+  literal-read v q = judged true (sym (ap (λ (p : Parsed). isSome (parsedValue p)) q)) e st (reported-none true (literalError s at) e st refl)
 
-  pub literal-invalid : parsed ≡ Invalid → (x : Error) → x ≡ errorFor s at 23 0 0 0 → (e′ : List ℕ) (st′ : State) → Reported e st x e′ st′ → Integer s at e st e′ (record { ty = 4; state = st′ })
+  pub literal-invalid : parsed ≡ Invalid → (x : Error) → x ≡ literalError s at → (e′ : List ℕ) (st′ : State) → Reported e st x e′ st′ → Integer s at e st e′ (record { ty = 4; state = st′ })
   literal-invalid q x ex e′ st′ rep =
-      judged false (sym (ap (λ (p : Parsed). isSome (parsedValue p)) q)) e′ st′ (reported-one false (errorFor s at 23 0 0 0) e st refl x ex e′ st′ rep)
+      judged false (sym (ap (λ (p : Parsed). isSome (parsedValue p)) q)) e′ st′ (reported-one false (literalError s at) e st refl x ex e′ st′ rep)

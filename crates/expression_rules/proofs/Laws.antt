@@ -6,7 +6,7 @@ use mathlib.Core.List.{List, [], _++_}
 use Rattle.types.specs.Ty.{Ty}
 use Rattle.types.specs.Table.{unfolded, IsType}
 use Rattle.types.proofs.Grow.{extends-type}
-use Rattle.node.specs.Record.{locationAt}
+use Rattle.trees.specs.Record.{locationAt}
 use Rattle.fallible.specs.declared.Error.{Error}
 use Rattle.fallible.specs.Operands.{isTypeOperand}
 use Rattle.meaning.specs.TypeError.{TypeError, Operand, row, error, unused, unless}
@@ -42,7 +42,7 @@ reported-always r = record { none = λ q. absurd (true≢false (sym q)); one = �
 -- What an error at a record spells
 pub spells-at : {w : List ℕ} {c : ℕ} (s : List ℕ) (at k : ℕ) {a b d : Operand} {x y z : ℕ} → SpellsOperand w c k 0 a x → SpellsOperand w c k 1 b y → SpellsOperand w c k 2 d z
     → Spells w c (error k (locationAt s at) a b d) (errorFor s at k x y z)
-spells-at s at k p q r = record { kind = refl; file = refl; line = refl; column = refl; first = p; second = q; third = r }
+spells-at s at k p q r = record { kind = refl; file = refl; line = refl; column = refl; first = p; second = q; third = r; place = refl }
 
 -- The same rows, whether an error was reported or not
 pub unless-rows : {b : Bool} {x : Error} {e e′ : List ℕ} {st st′ : State} → ReportedUnless b x e st e′ st′ → st′ .rows ≡ st .rows

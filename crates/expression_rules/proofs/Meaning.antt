@@ -3,7 +3,7 @@ use Prim.Native.Nat.{ℕ}
 use mathlib.Core.Path.{refl, sym}
 use mathlib.Core.List.{_++_, append-nil, append-assoc}
 use Rattle.types.specs.Ty.{is, boolKind}
-use Rattle.node.specs.Tree.{Location, Expression, index, pointerTake, pointerDereference, fieldAccess, bitwiseNot, booleanNot, booleanAnd, arithmeticBinOp, comparisonBinOp}
+use Rattle.trees.specs.Tree.{Location, Expression, index, pointerTake, pointerDereference, fieldAccess, bitwiseNot, booleanNot, booleanAnd, arithmeticBinOp, comparisonBinOp}
 use Rattle.meaning.specs.TypeError.{unless, leftNotBoolean, rightNotBoolean}
 use Rattle.meaning.specs.Expression.{expressionType, expressionErrors, expressionSlots}
 use Rattle.expression_rules.specs.Rules.{UnaryNode, BinaryNode}

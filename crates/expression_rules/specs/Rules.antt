@@ -6,16 +6,17 @@ use mathlib.Core.List.{List, [], _∷_, _++_}
 use lib.Dec.{eqb}
 use lib.ListN.{take, drop}
 use Rattle.shape.specs.Kinds as kinds
-use Rattle.types.specs.Ty.{Ty, is, isIntegral, pointer, bool, u16, boolKind, u16Kind, pointerKind, arrayKind}
+use Rattle.types.specs.Ty.{Ty, is, isIntegral, pointer, bool, boolKind, u16Kind, pointerKind, arrayKind}
 use Rattle.types.specs.Table.{unfolded}
 use Rattle.types.specs.declared.Row.the-variants.{Pointer}
 use Rattle.relations.specs.Relations.{isCastableTo}
 use Rattle.literal.specs.Literal.{fromStrRadix}
-use Rattle.node.specs.Bytes.{wordAt, fieldEnd, fieldsEnd}
-use Rattle.node.specs.Layout.{stopAt}
-use Rattle.node.specs.Tree.{Location, Expression}
-use Rattle.node.specs.Record.{locationAt}
+use Rattle.record_bytes.specs.Bytes.{halfAt, wordAt, fieldEnd, fieldsEnd}
+use Rattle.layout.specs.Layout.{stopAt}
+use Rattle.trees.specs.Tree.{Location, Expression}
+use Rattle.trees.specs.Record.{locationAt}
 use Rattle.fallible.specs.declared.Error.{Error}
+use Rattle.fallible.specs.Operands.{literalKind}
 use Rattle.meaning.specs.TypeError.{TypeError, unless, unknownIdentifier, invalidIndex, invalidCast, notAPointer}
 use Rattle.meaning.specs.TypeError.{notIntegral, notBoolean, leftNotBoolean, rightNotBoolean, literalOutOfRange}
 use Rattle.meaning.specs.Context.{Context, isSome, orUnknown, resolveIdentifier}
@@ -113,6 +114,20 @@ abbrev pub digitsAt : (s : List ℕ) → (at : ℕ) → List ℕ
 digitsAt s at = take (stopAt s at - (fieldsEnd at)) (drop (fieldsEnd at) s)
 
 -- A literal: the row of u16, even where it is out of range
+-- The error of the bad literal at a place of the file
+abbrev pub literalError : List ℕ → (at : ℕ) → Error
+literalError s at =
+    record {
+      kind = literalKind;
+      file = halfAt s (at + 6);
+      line = wordAt s (at + 8);
+      column = wordAt s (at + 12);
+      first = 0;
+      second = 0;
+      third = 0;
+      place = at;
+    }
+
 pub record Integer (s : List ℕ) (at : ℕ) (errors : List ℕ) (state : State) (errors′ : List ℕ) (r : Typed) : Type 0 where
   pub row : r .ty ≡ u16Kind
   pub tells : (rows : List ℕ) → Tells rows (integerErrors (locationAt s at) (wordAt s (fieldEnd at)) (digitsAt s at)) errors state errors′ (r .state)

@@ -1,4 +1,5 @@
 // What each kind of expression adds once its parts are typed: its type and its errors. No slot is stored here.
+use fallible::Error;
 use fallible::kinds::INCOMPATIBLE_OPERANDS;
 use fallible::kinds::LEFT_NOT_BOOLEAN;
 use fallible::kinds::LITERAL_OUT_OF_RANGE;
@@ -13,10 +14,14 @@ use fallible::kinds::NOT_CASTABLE;
 use fallible::kinds::RIGHT_NOT_BOOLEAN;
 use fallible::kinds::UNKNOWN_IDENTIFIER;
 use literal::Parsed;
-use node::bytes::FIELD_END;
-use node::bytes::FIELDS_END;
-use node::bytes::length_at;
-use node::bytes::word;
+use record_bytes::COLUMN;
+use record_bytes::FIELD_END;
+use record_bytes::FIELDS_END;
+use record_bytes::FILE;
+use record_bytes::LINE;
+use record_bytes::half;
+use record_bytes::length_at;
+use record_bytes::word;
 use shape::kinds::ARITHMETIC_BIN_OP;
 use shape::kinds::BITWISE_NOT;
 use shape::kinds::BOOLEAN_AND;
@@ -40,8 +45,8 @@ ghost use Rattle.row_index.specs.Index.{digitsIn, Indexed};
 ghost use Rattle.types.specs.Ty.{pointerKind, structKind};
 ghost use Rattle.types.specs.Table.{unfolded};
 ghost use Rattle.relations.specs.TypeRows.{OneType, TwoTypes};
-ghost use Rattle.node.specs.Bytes.{wordAt, headEnd, fieldEnd, fieldsEnd};
-ghost use Rattle.node.specs.Layout.{stopAt};
+ghost use Rattle.record_bytes.specs.Bytes.{wordAt, headEnd, fieldEnd, fieldsEnd};
+ghost use Rattle.layout.specs.Layout.{maxBytes, stopAt};
 ghost use Rattle.meaning.specs.Expression.{partOf, computes as computing};
 ghost use Rattle.meaning.specs.Promise.{workWidth};
 ghost use Rattle.types.specs.declared.Row.the-variants.{Pointer};
@@ -49,7 +54,7 @@ ghost use Rattle.walk.specs.Represents.{Shows};
 ghost use Rattle.walk.specs.Post.{Makes};
 ghost use Rattle.expression_rules.specs.Words.{orUnknownRow, resolvedWord};
 ghost use Rattle.convert.specs.Post.{errorFor};
-ghost use Rattle.expression_rules.specs.Rules.{ReportedUnless, Identifier, Integer, Unary, UnaryKept, Binary};
+ghost use Rattle.expression_rules.specs.Rules.{ReportedUnless, Identifier, literalError, Integer, Unary, UnaryKept, Binary};
 ghost use Rattle.expression_rules.specs.Rules.{Arithmetic, Cast, CheckAssignable};
 
 // The operator that an error names at a comparison.
@@ -132,6 +137,23 @@ pub fn identifier(s: &[u8], work: &[u32], at: usize, errors: &mut [u32], state: 
     }
 }
 
+// The error of the bad literal at `at`, the one error that has a place.
+fn literal_error(s: &[u8], at: usize) -> Error
+    requires { ⌜ (headEnd at ≤ length (now s)) × (length (now s) ≤ maxBytes) ⌝ }
+    ensures { λ r. ⌜ r ≡ literalError (old s) at ⌝ }
+{
+    Error {
+        kind: LITERAL_OUT_OF_RANGE,
+        file: half(s, at + FILE),
+        line: word(s, at + LINE),
+        column: word(s, at + COLUMN),
+        first: 0,
+        second: 0,
+        third: 0,
+        place: at as u32,
+    }
+}
+
 // An integer literal: u16, even where it is out of range.
 pub fn integer(
     s: &[u8],
@@ -140,7 +162,7 @@ pub fn integer(
     index: &[u16; row_index::LENGTH],
     state: State,
 ) -> Typed
-    requires { ⌜ (fieldsEnd at ≤ stopAt (now s) at) × (stopAt (now s) at ≤ length (now s)) ⌝ }
+    requires { ⌜ (fieldsEnd at ≤ stopAt (now s) at) × (stopAt (now s) at ≤ length (now s)) × (length (now s) ≤ maxBytes) ⌝ }
     requires { ⌜ DigitTable (digitsIn (now index)) ⌝ }
     ensures { λ r. ⌜ Integer (old s) at (old errors) state (final errors) r ⌝ }
 {
@@ -156,8 +178,7 @@ pub fn integer(
             state,
         },
         Parsed::Invalid => {
-            let error = convert::error_at(s, at, LITERAL_OUT_OF_RANGE, 0, 0, 0);
-            let next = walk::report(errors, state, error);
+            let next = walk::report(errors, state, literal_error(s, at));
             Typed {
                 ty: types::U16,
                 state: next,

@@ -120,6 +120,7 @@ errorOf-same f g same =
       first = same 4 (omega arith) j;
       second = same 5 (omega arith) j;
       third = same 6 (omega arith) j;
+      place = same 7 (omega arith) j;
     }
 
 -- The error at a number depends on no word past it.

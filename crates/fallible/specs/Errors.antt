@@ -8,14 +8,14 @@ use lib.ListN.{length, getD}
 use lib.Seq.{sets}
 use Rattle.fallible.specs.declared.Error.{Error}
 
--- "An error is seven words".
+-- "An error is seven words", and "the error record gains an eighth word".
 abbrev pub errorWidth : ℕ
-errorWidth = 7
+errorWidth = 8
 
--- "kind, file, line, column and three operands", as they stand in the list.
+-- "kind, file, line, column and three operands", then "the byte place of its expression, or 0 for other kinds", as they stand in the list.
 abbrev pub errorWords : Error → List ℕ
 errorWords error =
-    error .kind ∷ error .file ∷ error .line ∷ error .column ∷ error .first ∷ error .second ∷ error .third ∷ []
+    error .kind ∷ error .file ∷ error .line ∷ error .column ∷ error .first ∷ error .second ∷ error .third ∷ error .place ∷ []
 
 -- The error whose words these are, by their places from 0.
 abbrev pub errorOf : (word : ℕ → ℕ) → Error
@@ -28,6 +28,7 @@ errorOf word =
       first = word 4;
       second = word 5;
       third = word 6;
+      place = word 7;
     }
 
 -- A word of the error at a number, from 0.

@@ -46,6 +46,13 @@ errorKinds =
     (nameOperand ∷ []) ∷  -- 29: struct compound assigns `NAME` more than once
     []
 
+-- Kind 3, which tells of the built-in type of its name too, and kind 23, the one that has a place
+abbrev pub mismatchKind : ℕ
+mismatchKind = 3
+
+abbrev pub literalKind : ℕ
+literalKind = 23
+
 -- The sort of a kind's operand at place 0, 1 or 2. There is no kind 0.
 unfoldable pub operandSort : (kind place : ℕ) → OperandSort
 operandSort kind place = getD (getD ([] ∷ errorKinds) kind []) place unused

@@ -6,9 +6,10 @@ ghost use Rattle.contract.specs.Moments.{old, final};
 ghost use Rattle.fallible.specs.Errors.{errorList, pushed};
 
 // The words of an error in the list.
-pub const ERROR_WIDTH: usize = 7;
+pub const ERROR_WIDTH: usize = 8;
 
-// An error: its kind, where it stands, and what its message names; operands that a kind does not use are 0.
+// An error: its kind, where it stands, and what its message names; operands that a kind does not use are 0. Of a bad
+// literal the place is that of its record in the file, else 0.
 pub struct Error {
     pub kind: u32,
     pub file: u32,
@@ -17,6 +18,7 @@ pub struct Error {
     pub first: u32,
     pub second: u32,
     pub third: u32,
+    pub place: u32,
 }
 
 // Adds an error to the `count` there are, and returns the new count. An error that finds no room is only counted, and
@@ -36,5 +38,6 @@ pub fn push_error(errors: &mut [u32], count: usize, error: Error) -> usize
     errors[at + 4] = error.first;
     errors[at + 5] = error.second;
     errors[at + 6] = error.third;
+    errors[at + 7] = error.place;
     count + 1
 }

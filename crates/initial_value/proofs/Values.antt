@@ -8,15 +8,15 @@ use lib.ListN.{length}
 use Rattle.relations.specs.TypeRows.{OneType, TwoTypes}
 use Rattle.shape.specs.Shape.{dueIn, mayBeEither, anExpression, aCompound}
 use Rattle.shape.specs.declared.Holds.the-variants.{Nothing, InitialValue}
-use Rattle.node.specs.Bytes.{halfAt}
-use Rattle.node.specs.Layout.{classAt, kindAt, startAt, stopAt}
+use Rattle.record_bytes.specs.Bytes.{halfAt}
+use Rattle.layout.specs.Layout.{classAt, kindAt, startAt, stopAt}
 use Rattle.node.specs.Fine.{FineRecord, FineList, Opened}
-use Rattle.node.specs.Tree.{Location, Compound, noValue, compounded}
-use Rattle.node.specs.Tree as tree
-use Rattle.node.specs.Record.{locationAt, expressionAt, compoundAt}
-use Rattle.node.specs.declared.names.BuiltIns.{BuiltIns}
+use Rattle.trees.specs.Tree.{Location, Compound, noValue, compounded}
+use Rattle.trees.specs.Tree as tree
+use Rattle.trees.specs.Record.{locationAt, expressionAt, compoundAt}
+use Rattle.names.specs.declared.BuiltIns.{BuiltIns}
 use Rattle.node.proofs.Open.{opened, split-either}
-use Rattle.node.proofs.Statements.{initial-none, initial-expression, initial-compound}
+use Rattle.trees.proofs.Statements.{initial-none, initial-expression, initial-compound}
 use Rattle.meaning.specs.Expression.{expressionType, expressionErrors, expressionSlots, checkAssignable}
 use Rattle.meaning.specs.Compound.{compoundErrors, compoundSlots, initialErrors, globalInitialErrors, initialSlots}
 use Rattle.walk.specs.declared.State.{State}

@@ -3,9 +3,9 @@ use Prim.Native.Nat.{ℕ, _-_}
 use mathlib.Core.Bool.{Bool, true, false}
 use mathlib.Core.List.{List}
 use Rattle.types.specs.Ty.{Ty}
-use Rattle.node.specs.Tree.{InitialValue}
-use Rattle.node.specs.Record.{recordsAt, toInitialValue}
-use Rattle.node.specs.declared.names.BuiltIns.{BuiltIns}
+use Rattle.trees.specs.Tree.{InitialValue}
+use Rattle.trees.specs.Record.{recordsAt, toInitialValue}
+use Rattle.names.specs.declared.BuiltIns.{BuiltIns}
 use Rattle.meaning.specs.TypeError.{TypeError}
 use Rattle.meaning.specs.Context.{Context}
 use Rattle.meaning.specs.Compound.{initialErrors, globalInitialErrors, initialSlots}

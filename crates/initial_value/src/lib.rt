@@ -2,10 +2,10 @@
 use compound::type_check_compound_assignment;
 use expression::type_check_expression;
 use expression_rules::check_types_are_assignable;
-use node::bytes::KIND;
-use node::bytes::half;
-use node::fine::Node;
-use node::names::BuiltIns;
+use names::BuiltIns;
+use node::Node;
+use record_bytes::KIND;
+use record_bytes::half;
 use shape::kinds::ARRAY_COMPOUND;
 use walk::State;
 ghost use Rattle.contract.specs.Moments.{old};

@@ -10,13 +10,13 @@ use lib.ListN.{length}
 use borrow.Author.Tests.{eq-eqb, ne-eqb}
 use Rattle.types.specs.Ty.{Ty, void, same}
 use Rattle.shape.specs.Shape.{aStatement}
-use Rattle.node.specs.Bytes.{Read, wordAt}
-use Rattle.node.specs.Layout.{stopAt}
+use Rattle.record_bytes.specs.Bytes.{Read, wordAt}
+use Rattle.layout.specs.Layout.{stopAt}
 use Rattle.node.specs.Fine.{FineRecord}
-use Rattle.node.specs.Tree.{Statement}
-use Rattle.node.specs.Record.{locationAt, statementAt, bodyAt}
-use Rattle.node.specs.declared.names.BuiltIns.{BuiltIns}
-use Rattle.node.proofs.ItemTrees.{BodyAt, parameters-none, body-at}
+use Rattle.trees.specs.Tree.{Statement}
+use Rattle.trees.specs.Record.{locationAt, statementAt, bodyAt}
+use Rattle.names.specs.declared.BuiltIns.{BuiltIns}
+use Rattle.trees.proofs.ItemTrees.{BodyAt, parameters-none, body-at}
 use Rattle.meaning.specs.TypeError.{TypeError, unless, pathsWithoutReturn}
 use Rattle.meaning.specs.Context.{Context}
 use Rattle.meaning.specs.Statement.{statementErrors, statementSlots}

@@ -10,15 +10,15 @@ use Rattle.types.specs.Ty.{Ty, member, parts}
 use Rattle.types.proofs.Parts.{member-append}
 use Rattle.shape.specs.Shape.{aType, anItem}
 use Rattle.shape.specs.declared.Holds.the-variants.{Parameters}
-use Rattle.node.specs.Bytes.{wordAt}
-use Rattle.node.specs.Layout.{maxBytes, kindAt, stopAt}
+use Rattle.record_bytes.specs.Bytes.{wordAt}
+use Rattle.layout.specs.Layout.{maxBytes, kindAt, stopAt}
 use Rattle.node.specs.Fine.{FineRecord, FineList}
-use Rattle.node.specs.Tree.{Location, TypeNode, Parameter, Statement, Item, functionDefinition}
-use Rattle.node.specs.Record.{locationAt, typeAt, parametersAt, bodyAt, itemTreeAt}
-use Rattle.node.specs.declared.names.BuiltIns.{BuiltIns}
+use Rattle.trees.specs.Tree.{Location, TypeNode, Parameter, Statement, Item, functionDefinition}
+use Rattle.trees.specs.Record.{locationAt, typeAt, parametersAt, bodyAt, itemTreeAt}
+use Rattle.names.specs.declared.BuiltIns.{BuiltIns}
 use Rattle.node.proofs.Open.{opened}
-use Rattle.node.proofs.TypeTrees.{TypeRoom}
-use Rattle.node.proofs.ItemTrees.{FunctionAt, item-function}
+use Rattle.trees.proofs.TypeTrees.{TypeRoom}
+use Rattle.trees.proofs.ItemTrees.{FunctionAt, item-function}
 use Rattle.meaning.specs.TypeError.{TypeError}
 use Rattle.meaning.specs.Context.{TypeMap, noTypes, ModuleContext, Context, context, blank, each}
 use Rattle.meaning.specs.Convert.{Slot, conversionErrors, conversionSlots}

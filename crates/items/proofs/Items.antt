@@ -8,15 +8,15 @@ use lib.ListN.{length}
 use Rattle.shape.specs.Shape.{dueIn, aType, anItem}
 use Rattle.shape.specs.declared.Holds.the-variants as holds
 use Rattle.shape.specs.declared.Holds.the-variants.{Items}
-use Rattle.node.specs.Bytes.{Read, halfAt, wordAt}
-use Rattle.node.specs.Layout.{maxBytes, kindAt, stopAt}
+use Rattle.record_bytes.specs.Bytes.{Read, halfAt, wordAt}
+use Rattle.layout.specs.Layout.{maxBytes, kindAt, stopAt}
 use Rattle.node.specs.Fine.{FineRecord, FineList}
-use Rattle.node.specs.Tree.{Item, globalDeclaration}
-use Rattle.node.specs.Record.{locationAt, typeAt, itemTreeAt}
-use Rattle.node.specs.declared.names.BuiltIns.{BuiltIns}
+use Rattle.trees.specs.Tree.{Item, globalDeclaration}
+use Rattle.trees.specs.Record.{locationAt, typeAt, itemTreeAt}
+use Rattle.names.specs.declared.BuiltIns.{BuiltIns}
 use Rattle.node.proofs.Open.{opened, split-may}
-use Rattle.node.proofs.Decode.{fine-wide}
-use Rattle.node.proofs.ItemTrees.{AliasAt, item-alias, GlobalAt, item-global, item-other}
+use Rattle.trees.proofs.Decode.{fine-wide}
+use Rattle.trees.proofs.ItemTrees.{AliasAt, item-alias, GlobalAt, item-global, item-other}
 use Rattle.meaning.specs.TypeError.{TypeError}
 use Rattle.meaning.specs.Context.{ModuleContext, context, blank, each}
 use Rattle.meaning.specs.Convert.{Slot, convertNodeType, conversionErrors, conversionSlots}

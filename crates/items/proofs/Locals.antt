@@ -12,8 +12,8 @@ use lib.Seq.{getD-set-same, getD-set-other}
 use borrow.Author.Tests.{eqb-true, eqb-false, ltb-true, ltb-false}
 use Rattle.types.proofs.Grow.{extends-refl}
 use Rattle.row_index.proofs.Additions.{rows-none}
-use Rattle.node.specs.Tree.{Statement}
-use Rattle.node.specs.Record.{statementAt, bodyAt}
+use Rattle.trees.specs.Tree.{Statement}
+use Rattle.trees.specs.Record.{statementAt, bodyAt}
 use Rattle.meaning.specs.Context.{Context, context, blank}
 use Rattle.walk.specs.declared.State.{State}
 use Rattle.walk.specs.Effect.{nothing}

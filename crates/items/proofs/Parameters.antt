@@ -9,16 +9,16 @@ use lib.ListN.{length, set, length-set}
 use Rattle.types.specs.Ty.{void}
 use Rattle.shape.specs.Shape.{aStatement}
 use Rattle.shape.specs.declared.Holds.the-variants.{Parameters}
-use Rattle.node.specs.Bytes.{Read, halfAt, wordAt}
-use Rattle.node.specs.Names.{nameCount}
-use Rattle.node.specs.Layout.{kindAt, stopAt}
+use Rattle.record_bytes.specs.Bytes.{Read, halfAt, wordAt}
+use Rattle.names.specs.Names.{nameCount}
+use Rattle.layout.specs.Layout.{kindAt, stopAt}
 use Rattle.node.specs.Fine.{FineList}
-use Rattle.node.specs.Tree.{Parameter}
-use Rattle.node.specs.Record.{typeAt, parametersAt, bodyAt}
-use Rattle.node.specs.declared.names.BuiltIns.{BuiltIns}
+use Rattle.trees.specs.Tree.{Parameter}
+use Rattle.trees.specs.Record.{typeAt, parametersAt, bodyAt}
+use Rattle.names.specs.declared.BuiltIns.{BuiltIns}
 use Rattle.node.proofs.Open.{opened}
-use Rattle.node.proofs.ItemTrees.{ParameterAt, parameters-none, parameter-at, body-at}
-use Rattle.node.proofs.Cases.{by-number}
+use Rattle.trees.proofs.ItemTrees.{ParameterAt, parameters-none, parameter-at, body-at}
+use Rattle.shape.proofs.Cases.{by-number}
 use Rattle.meaning.specs.Context.{TypeMap, noTypes, Entry, insert, insertAll, ModuleContext, context, each}
 use Rattle.meaning.specs.Convert.{convertNodeType}
 use Rattle.meaning.specs.Module.{parameterEntry, parameterErrors, parameterSlots, argumentMap}

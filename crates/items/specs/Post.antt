@@ -9,14 +9,14 @@ use lib.ListN.{length, getD}
 use Rattle.types.specs.Ty.{void}
 use Rattle.shape.specs.Kinds as kinds
 use Rattle.shape.specs.declared.Holds.the-variants.{Parameters}
-use Rattle.node.specs.Bytes.{wordAt, headEnd}
-use Rattle.node.specs.Layout.{kindAt, stopAt}
+use Rattle.record_bytes.specs.Bytes.{wordAt, headEnd}
+use Rattle.layout.specs.Layout.{kindAt, stopAt}
 use Rattle.node.specs.Fine.{FineList}
-use Rattle.node.specs.Tree.{Statement, Parameter, Item}
-use Rattle.node.specs.Record.{locationAt, parametersAt, bodyAt, itemTreeAt}
-use Rattle.node.specs.declared.fine.Node.{Node}
-use Rattle.node.specs.declared.fine.Nodes.{Nodes}
-use Rattle.node.specs.declared.names.BuiltIns.{BuiltIns}
+use Rattle.trees.specs.Tree.{Statement, Parameter, Item}
+use Rattle.trees.specs.Record.{locationAt, parametersAt, bodyAt, itemTreeAt}
+use Rattle.node.specs.declared.Node.{Node}
+use Rattle.node.specs.declared.Nodes.{Nodes}
+use Rattle.names.specs.declared.BuiltIns.{BuiltIns}
 use Rattle.meaning.specs.Context.{noTypes, ModuleContext, Context, context, blank, each}
 use Rattle.meaning.specs.Statement.{contextAfter}
 use Rattle.meaning.specs.Module.{parameterErrors, parameterSlots, argumentMap, bodyErrors, bodySlots, itemErrors}

@@ -1,8 +1,8 @@
 // Judges modules by tests 1 to 4, and prints a line for each: `good`, or `refused 2 at 40`. Standard input is a list
 // of commands (tools/layout_cases.py).
+use layout::Layout;
 use libc::STDIN_FILENO;
-use node::layout::Layout;
-use node::names::Repeated;
+use names::Repeated;
 use program_support::print::BUFFER;
 use program_support::print::flush;
 use program_support::print::put_refused;
@@ -22,7 +22,7 @@ enum Verdict {
 }
 
 fn judge_names(s: &[u8]) -> Verdict {
-    let repeated = node::names::repeated_name(s);
+    let repeated = name_index::repeated_name(s);
     match repeated {
         Repeated::At(place) => Verdict::Refused(4, place),
         Repeated::Nowhere => Verdict::Good,
@@ -34,7 +34,7 @@ fn judge(base: &[u8], n: usize) -> Verdict
     requires { ⌜ n ≤ length (now base) ⌝ }
 {
     let s = &base[..n];
-    let layout = node::layout::check_layout(s);
+    let layout = layout::check_layout(s);
     match layout {
         Layout::Good => judge_names(s),
         Layout::TooLong => Verdict::Refused(1, 0),

@@ -2,7 +2,7 @@
 use Prim.Native.Nat.{ℕ}
 use mathlib.Core.List.{List, [], _∷_, _++_}
 use Rattle.types.specs.Ty.{Ty}
-use Rattle.node.specs.Tree.{Statement, block, expression, variableDeclaration, assignment, compoundAssignment, return, loop, while, break, «if», ifElse, inlineAssembly, noStatements, statementThen}
+use Rattle.trees.specs.Tree.{Statement, block, expression, variableDeclaration, assignment, compoundAssignment, return, loop, while, break, «if», ifElse, inlineAssembly, noStatements, statementThen}
 use Rattle.meaning.specs.Context.{Context}
 use Rattle.meaning.specs.Convert.{convertNodeType}
 use Rattle.meaning.specs.Statement.{declareLocal, contextAfter, declaredNames}

@@ -5,7 +5,7 @@ use mathlib.Core.Bool.{Bool, true, false, cond}
 use mathlib.Core.Option.{none}
 use mathlib.Core.List.{List, [], _∷_, _++_, map, List·Mem, Subset, mem-cons-self, mem-append-left, mem-append-right, not-mem-nil}
 use Rattle.types.specs.Ty.{Ty, pointer, array, struct, field, function, argument}
-use Rattle.node.specs.Tree.{TypeNode, nameType, voidType, pointerType, arrayType, structType, noFields, fieldThen, Parameter, Item, functionDefinition, typeAlias, globalDeclaration, otherItem}
+use Rattle.trees.specs.Tree.{TypeNode, nameType, voidType, pointerType, arrayType, structType, noFields, fieldThen, Parameter, Item, functionDefinition, typeAlias, globalDeclaration, otherItem}
 use Rattle.meaning.specs.TypeError.{TypeError, unless, unknownType}
 use Rattle.meaning.specs.Context.{TypeMap, Entry, entry, ModuleContext, typeNamed, isSome, orUnknown, each}
 use Rattle.meaning.specs.Convert.{slot, convertNodeType, conversionErrors, conversionSlots}

@@ -14,13 +14,13 @@ use Rattle.types.specs.Table.{rowWidth, fixedLength, fixedWords}
 use Rattle.fallible.specs.Outcome.{Outcome, refused, accepted, orNext, firstRefusing, outcomeAfter}
 use Rattle.fallible.specs.Errors.{errorWidth}
 use Rattle.shape.specs.Shape.{shapeOf, dueIn, isDone, mayStand, stateAfter, allowed}
-use Rattle.node.specs.Bytes.{halfAt, wordAt}
-use Rattle.node.specs.Layout.{layoutOf, layoutRefusal, listAt, recordAt, headAt, isBad}
-use Rattle.node.specs.declared.layout.Layout.{Layout}
-use Rattle.node.specs.declared.layout.Layout.the-variants.{Good}
-use Rattle.node.specs.Names.{stands, chain, namesEnd, namePlaces, namesOf, nameCount, repeatIn, repeatedName, nameRefusal, itemPlaces, itemsOf}
-use Rattle.node.specs.Example.{head}
-use Rattle.node.proofs.LayoutLaws.{layout-short}
+use Rattle.record_bytes.specs.Bytes.{halfAt, wordAt}
+use Rattle.layout.specs.Layout.{layoutOf, layoutRefusal, listAt, recordAt, headAt, isBad}
+use Rattle.layout.specs.declared.Layout.{Layout}
+use Rattle.layout.specs.declared.Layout.the-variants.{Good}
+use Rattle.names.specs.Names.{stands, chain, namesEnd, namePlaces, namesOf, nameCount, repeatIn, repeatedName, nameRefusal, itemPlaces, itemsOf}
+use Rattle.trees.specs.Example.{head}
+use Rattle.layout.proofs.LayoutLaws.{layout-short}
 use Rattle.meaning.specs.Context.{each}
 use Rattle.meaning.specs.Module.{declarations, declareAll, moduleErrors, typesMet, neededTypes}
 use Rattle.meaning.specs.Promise.{workWidth, treesOf, errorsOf, typesOf, Counts, countsOf, Buffers, Lengths, lengthsOf, refuseIf, tests, answerOf, cleared}

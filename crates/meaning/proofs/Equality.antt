@@ -8,8 +8,8 @@ use borrow.Author.Tests.{eq-eqb, eqb-true}
 use Rattle.types.specs.Ty.{Ty, same, member, distinctCount}
 use Rattle.types.proofs.Laws.{same-refl, same-true}
 use Rattle.meaning.specs.TypeError.{TypeError, Operand, plain, row}
-use Rattle.node.specs.Names.{sameBytes}
-use Rattle.node.proofs.NameLaws.{same-refl as bytes-reflexive, same-true as bytes-sound}
+use Rattle.names.specs.Names.{sameBytes}
+use Rattle.names.proofs.NameLaws.{same-refl as bytes-reflexive, same-true as bytes-sound}
 use Rattle.shape.proofs.ShapeLaws.{and-both}
 use Rattle.meaning.specs.JoiningOrder.{sameOperand, sameError}
 use Rattle.meaning.proofs.Permutation.{DecidesEqual, invariant}
@@ -34,11 +34,12 @@ operand-sound (row t) (row u) e = ap row (same-true t u e)
 error-reflexive : (e : TypeError) → sameError e e ≡ true
 error-reflexive e =
     rw (eq-eqb (e .kind) (e .kind) refl, eq-eqb (e .file) (e .file) refl, eq-eqb (e .line) (e .line) refl, eq-eqb (e .column) (e .column) refl)
-    (rw (operand-reflexive (e .first), operand-reflexive (e .second), operand-reflexive (e .third)))
+    (rw (operand-reflexive (e .first), operand-reflexive (e .second), operand-reflexive (e .third), eq-eqb (e .place) (e .place) refl))
 
 error-sound : (e f : TypeError) → sameError e f ≡ true → e ≡ f
 error-sound e f h =
-    let third = and-both _ (sameOperand (e .third) (f .third)) h in
+    let place = and-both _ (eqb (e .place) (f .place)) h in
+    let third = and-both _ (sameOperand (e .third) (f .third)) (place .0) in
     let second = and-both _ (sameOperand (e .second) (f .second)) (third .0) in
     let first = and-both _ (sameOperand (e .first) (f .first)) (second .0) in
     let column = and-both _ (eqb (e .column) (f .column)) (first .0) in
@@ -52,6 +53,7 @@ error-sound e f h =
       first = operand-sound (e .first) (f .first) (first .1) i;
       second = operand-sound (e .second) (f .second) (second .1) i;
       third = operand-sound (e .third) (f .third) (third .1) i;
+      place = eqb-true (e .place) (f .place) (place .1) i;
     }
 
 pub error-equal : DecidesEqual sameError

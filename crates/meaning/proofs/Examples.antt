@@ -2,10 +2,10 @@
 use mathlib.Core.Path.{refl}
 use Rattle.types.specs.Ty.{same, member, distinctCount, parts}
 use Rattle.shape.specs.Shape.{shapeOf, dueIn, isDone, mayStand, stateAfter, allowed}
-use Rattle.node.specs.Bytes.{halfAt, wordAt}
-use Rattle.node.specs.Names.{stands, chain, namesEnd, namePlaces, nameBytes, namesOf, nameCount, sameBytes, isAmong, repeatIn, repeatedName, nameRefusal, itemPlaces, itemBytes, itemsOf}
-use Rattle.node.specs.Layout.{isBad, headAt, listAt, recordAt, layoutOf, layoutRefusal}
-use Rattle.node.specs.Record.{recordsWith, recordsAt, toType, itemTree}
+use Rattle.record_bytes.specs.Bytes.{halfAt, wordAt}
+use Rattle.names.specs.Names.{stands, chain, namesEnd, namePlaces, nameBytes, namesOf, nameCount, sameBytes, isAmong, repeatIn, repeatedName, nameRefusal, itemPlaces, itemBytes, itemsOf}
+use Rattle.layout.specs.Layout.{isBad, headAt, listAt, recordAt, layoutOf, layoutRefusal}
+use Rattle.trees.specs.Record.{recordsWith, recordsAt, toType, itemTree}
 use Rattle.meaning.specs.Context.{each, insertAll}
 use Rattle.meaning.specs.Convert.{convertNodeType, conversionErrors, conversionSlots}
 use Rattle.meaning.specs.Compound.{globalInitialErrors, initialSlots}

@@ -7,6 +7,15 @@ pub mod Places
 pub mod After
 pub mod Order
 pub mod Size
+pub mod ItemStarts
+pub mod Passed
+pub mod Members
+pub mod TreeWords
+pub mod ErrorWords
+pub mod TypeNames
+pub mod ModuleWords
+pub mod Inside
+pub mod Counted
 pub mod Cleared
 pub mod Whole
 pub mod Needed

@@ -5,7 +5,7 @@ use mathlib.Core.Option.{none, some}
 use mathlib.Core.List.{[], _∷_}
 use lib.Dec.{eqb}
 use Rattle.types.specs.Ty.{u16, i16, alias, distinct}
-use Rattle.node.specs.Tree.{location, nameType, identifier, noValue, assigned, Item, typeAlias, globalDeclaration}
+use Rattle.trees.specs.Tree.{location, nameType, identifier, noValue, assigned, Item, typeAlias, globalDeclaration}
 use Rattle.meaning.specs.Context.{TypeMap, insertAll, each}
 use Rattle.meaning.specs.Convert.{convertNodeType, conversionErrors, conversionSlots}
 use Rattle.meaning.specs.Expression.{expressionType, expressionSlots}

@@ -7,7 +7,7 @@ use mathlib.Core.Option.{none}
 use mathlib.Core.List.{List, [], _∷_, _++_, map, List·Mem, List·Nodup, Subset, Disjoint, nodup-append, Nodup·of-append-right, Perm·nodup, mem-append-left, mem-append-right}
 use mathlib.Core.List.{List·Permᴰ, List·Permᴰ·trans, Permᴰ·map, Permᴰ·append-left, Permᴰ·append-right}
 use Rattle.types.specs.Ty.{parts, fixedTypes}
-use Rattle.node.specs.Tree.{Item}
+use Rattle.trees.specs.Tree.{Item}
 use Rattle.meaning.specs.Context.{TypeMap, insertAll, each, ModuleContext, orElse}
 use Rattle.meaning.specs.Module.{isTaken, aliasEntries, globalEntries, declare, Declaration, declarations, declareAll, emptyContext, moduleContext, entryType, itemErrors, itemTypes, moduleErrors, typesMet, neededTypes}
 use Rattle.meaning.specs.JoiningOrder.{namesInDeclaredTypes, aliasName, globalName}

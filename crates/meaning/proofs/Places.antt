@@ -5,7 +5,7 @@ use mathlib.Core.HLevel.{⊥-prop}
 use mathlib.Core.List.{List, [], _∷_, List·Mem, mem-append, not-mem-nil}
 use native.Mathlib.Omega.{arith}
 use lib.ListN.{length, getD}
-use Rattle.node.specs.Tree.{Item, otherItem}
+use Rattle.trees.specs.Tree.{Item, otherItem}
 use Rattle.meaning.specs.Context.{each}
 use Rattle.meaning.specs.JoiningOrder.{namesInDeclaredTypes, aliasName}
 

@@ -13,12 +13,12 @@ use Rattle.shape.specs.Shape.{pick, aNames, aName, anItem, shapeOf, mayBe, dueI
 use Rattle.shape.specs.declared.Holds.{Holds}
 use Rattle.shape.specs.declared.Holds.the-variants.{Items, Names}
 use Rattle.shape.proofs.ShapeLaws.{kind-range}
-use Rattle.node.specs.Bytes.{wordAt}
-use Rattle.node.specs.Names.{stands, chain, namesEnd, namePlaces, nameBytes, namesOf, itemPlaces, itemBytes, itemsOf, isAmong, repeatIn, repeatedName}
-use Rattle.node.specs.Layout.{kindAt, stopAt, isEmptyFile, layoutOf}
+use Rattle.record_bytes.specs.Bytes.{wordAt}
+use Rattle.names.specs.Names.{stands, chain, namesEnd, namePlaces, nameBytes, namesOf, itemPlaces, itemBytes, itemsOf, isAmong, repeatIn, repeatedName}
+use Rattle.layout.specs.Layout.{kindAt, stopAt, isEmptyFile, layoutOf}
 use Rattle.node.specs.Fine.{FineList, Opened}
-use Rattle.node.specs.declared.names.Repeated.the-variants.{At}
-use Rattle.node.specs.declared.layout.Layout.the-variants.{Good}
+use Rattle.names.specs.declared.Repeated.the-variants.{At}
+use Rattle.layout.specs.declared.Layout.the-variants.{Good}
 use Rattle.node.proofs.Open.{opened, opened-kind, split-may, fine-stands}
 use Rattle.node.proofs.Open.{ModuleRecord, empty-or-record, module-parts, names-room, names-end-none, items-list, item-chain}
 

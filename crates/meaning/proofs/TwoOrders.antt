@@ -5,16 +5,16 @@ use mathlib.Core.Bool.{false}
 use mathlib.Core.Logic.{_≢_}
 use mathlib.Core.List.{List, [], _∷_, _++_, List·Nodup, nodup-nil, nodup-cons, not-mem-nil, mem-singleton, List·Permᴰ·cons, List·Permᴰ·swap}
 use Rattle.shape.specs.Shape.{shapeOf, dueIn, isDone, mayStand, stateAfter, allowed}
-use Rattle.node.specs.declared.layout.Layout.the-variants.{Good}
+use Rattle.layout.specs.declared.Layout.the-variants.{Good}
 use native.Mathlib.Omega.{arith}
 use native.Mathlib.Nat.{ℕ-set}
 use lib.ListN.{length}
-use Rattle.node.specs.Bytes.{halfAt, wordAt}
-use Rattle.node.specs.Layout.{layoutOf, listAt, recordAt, headAt, isBad}
-use Rattle.node.specs.Names.{chain, stands, namesEnd, namePlaces, nameBytes, namesOf, nameCount, itemPlaces, itemBytes, itemsOf, sameBytes}
-use Rattle.node.specs.Record.{recordsWith, recordsAt, toType, itemTree}
-use Rattle.node.specs.Tree.{location, nameType, noValue, Item, typeAlias, globalDeclaration}
-use Rattle.node.specs.Example.{word}
+use Rattle.record_bytes.specs.Bytes.{halfAt, wordAt}
+use Rattle.layout.specs.Layout.{layoutOf, listAt, recordAt, headAt, isBad}
+use Rattle.names.specs.Names.{chain, stands, namesEnd, namePlaces, nameBytes, namesOf, nameCount, itemPlaces, itemBytes, itemsOf, sameBytes}
+use Rattle.trees.specs.Record.{recordsWith, recordsAt, toType, itemTree}
+use Rattle.trees.specs.Tree.{location, nameType, noValue, Item, typeAlias, globalDeclaration}
+use Rattle.trees.specs.Example.{word}
 use Rattle.meaning.specs.Context.{each}
 use Rattle.meaning.specs.Promise.{treesOf}
 use Rattle.meaning.specs.JoiningOrder.{AnotherOrder, Supposed, namedIn, namesInDeclaredTypes, globalName, aliasName}

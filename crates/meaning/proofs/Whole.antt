@@ -11,9 +11,9 @@ use Rattle.types.specs.Table.{rowWidth}
 use Rattle.types.proofs.Sizes.{same-size}
 use Rattle.fallible.specs.Outcome.{Outcome, refused, accepted, firstRefusing, outcomeAfter}
 use Rattle.fallible.specs.Errors.{errorWidth}
-use Rattle.node.specs.Record.{itemTree}
-use Rattle.node.specs.Layout.{layoutRefusal}
-use Rattle.node.specs.Names.{sameBytes, itemsOf, nameRefusal}
+use Rattle.trees.specs.Record.{itemTree}
+use Rattle.layout.specs.Layout.{layoutRefusal}
+use Rattle.names.specs.Names.{sameBytes, itemsOf, nameRefusal}
 use Rattle.meaning.specs.Context.{TypeMap}
 use Rattle.meaning.specs.Module.{moduleContext, moduleErrors, neededTypes, itemTypes}
 use Rattle.meaning.specs.Promise.{workWidth, builtInTypes, treesOf, builtInsOf, contextOf, errorsOf, typesOf, Counts, countsOf, Lengths, lengthsOf, refuseIf, answerOf, ItemFilled, Accepted}
@@ -22,6 +22,7 @@ use Rattle.meaning.proofs.Permutation.{permutation, invariant, length-p
 use Rattle.meaning.proofs.Equality.{bytes-equal, distinct-permuted}
 use Rattle.meaning.proofs.Places.{precede}
 use Rattle.meaning.proofs.Size.{totalLength, startLength, size, same-repeated}
+use Rattle.meaning.proofs.Counted.{counted}
 use Rattle.meaning.proofs.Order.{SupposedItems, same-context, errors-permuted, types-permuted}
 
 total-permuted : {l r : List (List ℕ)} → List·Permᴰ l r → totalLength l ≡ totalLength r
@@ -108,7 +109,7 @@ joining-order c d meets-c meets-d lent other sc sd = outcome (c .answer) (d .ans
           sizes = same-size (c .after .rows) (d .after .rows) (x .rows) (y .rows) (p .table) (q .table);
           errorCounts = ap (λ (z : Counts). z .errors) e;
           items = λ i j hi hj b. filled-alike b (λ t. itemTypes (ctx t) (itemTree (b t))) (p .items i hi) (q .items j hj);
-          errors = λ z. ap (timesIn sameError z) (p .errors) ∙ times-permuted sameError z permuted ∙ sym (ap (timesIn sameError z) (q .errors));
+          errors = λ z. ap (timesIn sameError z) (counted (c .input) (c .before) (c .after) x p) ∙ times-permuted sameError z permuted ∙ sym (ap (timesIn sameError z) (counted (d .input) (d .before) (d .after) y q));
         }
 
     outcome : (a b : Outcome Counts) → c .answer ≡ a → d .answer ≡ b → c .answer ≡ d .answer → SameOutcome c d a b

@@ -8,9 +8,9 @@ use Rattle.types.specs.Ty.{Ty, bool, u16, i16, pointer, array, alias, distinct}
 use Rattle.relations.specs.Relations.{typesAreAssignable}
 use Rattle.relations.specs.WordSize.{wordSizeOf}
 use Rattle.relations.specs.declared.WordSize.the-variants.{Words, TooLarge}
-use Rattle.node.specs.Tree.{Location, location, nameType, Expression, identifier, integer, cast, comparisonBinOp}
-use Rattle.node.specs.Tree.{Statement, block, return, loop, while, break, noStatements, statementThen}
-use Rattle.node.specs.Tree.{functionDefinition}
+use Rattle.trees.specs.Tree.{Location, location, nameType, Expression, identifier, integer, cast, comparisonBinOp}
+use Rattle.trees.specs.Tree.{Statement, block, return, loop, while, break, noStatements, statementThen}
+use Rattle.trees.specs.Tree.{functionDefinition}
 use Rattle.meaning.specs.TypeError.{TypeError, error, plain, row}
 use Rattle.meaning.specs.Context.{noTypes, entry, insert, ModuleContext, context, blank}
 use Rattle.meaning.specs.Expression.{expressionErrors}

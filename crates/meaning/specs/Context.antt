@@ -46,6 +46,11 @@ unfoldable pub each : {A B : Type 0} → (A → List B) → List A → List B
 each f [] = []
 each f (x ∷ l) = f x ++ each f l
 
+-- Every member of a list
+unfoldable pub All : {A : Type 0} → (A → Type 0) → List A → Type 0
+All P [] = Unit {0}
+All P (x ∷ l) = P x × All P l
+
 -- Within a module: its built-in names, the aliases stored and the globals
 pub record ModuleContext : Type 0 where
   pub builtIns : TypeMap

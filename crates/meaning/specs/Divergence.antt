@@ -1,7 +1,7 @@
 -- `do_all_paths_diverge`, with `find_statement` looking for a break.
 use mathlib.Core.Bool.{Bool, true, false, _&&_, _||_, not}
-use Rattle.node.specs.Tree.{Statement, block, expression, variableDeclaration, assignment, compoundAssignment, return}
-use Rattle.node.specs.Tree.{loop, while, break, «if», ifElse, inlineAssembly, noStatements, statementThen}
+use Rattle.trees.specs.Tree.{Statement, block, expression, variableDeclaration, assignment, compoundAssignment, return}
+use Rattle.trees.specs.Tree.{loop, while, break, «if», ifElse, inlineAssembly, noStatements, statementThen}
 
 -- A break at any depth, inner loops included
 unfoldable pub findBreak : Statement → Bool

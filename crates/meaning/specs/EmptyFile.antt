@@ -1,4 +1,4 @@
--- Document 02, paper 12: a file of no bytes means the module without names and items. It is no layout fault (`layoutOf`, crate node), and has
+-- Document 02, paper 12: a file of no bytes means the module without names and items. It is no layout fault (`layoutOf`, crate layout), and has
 -- neither names nor items by their definitions; what follows from that for a run is said here.
 use Prim.Native.Nat.{ℕ, _≤_, _<_}
 use mathlib.Core.Path.{_≡_}
@@ -6,8 +6,8 @@ use mathlib.Core.List.{List, []}
 use lib.ListN.{length, replicate}
 use Rattle.types.specs.Table.{fixedCount, fixedLength, withFixed}
 use Rattle.fallible.specs.Outcome.{Outcome, refused, accepted}
-use Rattle.node.specs.Bytes.{headSize}
-use Rattle.node.specs.Names.{namesOf, itemsOf}
+use Rattle.record_bytes.specs.Bytes.{headSize}
+use Rattle.names.specs.Names.{namesOf, itemsOf}
 use Rattle.meaning.specs.Promise.{Counts, Buffers, Checked}
 
 -- Seven rows and no errors

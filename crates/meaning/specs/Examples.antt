@@ -7,10 +7,10 @@ use Rattle.types.specs.Ty.{u16}
 use Rattle.types.specs.Table.{rowWidth}
 use Rattle.fallible.specs.Outcome.{accepted}
 use Rattle.fallible.specs.Errors.{errorWidth}
-use Rattle.node.specs.Tree.{Location, location, nameType, pointerType, Item, functionDefinition, typeAlias}
-use Rattle.node.specs.Tree.{globalDeclaration, noValue}
+use Rattle.trees.specs.Tree.{Location, location, nameType, pointerType, Item, functionDefinition, typeAlias}
+use Rattle.trees.specs.Tree.{globalDeclaration, noValue}
 use mathlib.Core.Bool.{false}
-use Rattle.node.specs.Example.{example}
+use Rattle.trees.specs.Example.{example}
 use Rattle.meaning.specs.TypeError.{error, unknownType, plain}
 use Rattle.meaning.specs.Context.{TypeMap, noTypes, entry, insert}
 use Rattle.meaning.specs.Module.{moduleErrors, rowCount}

@@ -2,23 +2,23 @@
 use Prim.Native.Nat.{ℕ, suc, _<_}
 use mathlib.Core.Path.{_≡_}
 use mathlib.Core.Bool.{Bool, false, cond, _&&_}
-use mathlib.Core.List.{List, [], _∷_, _++_, List·Nodup, List·Mem}
+use mathlib.Core.List.{List, [], _∷_, _++_, map, List·Nodup, List·Mem}
 use lib.Dec.{eqb}
 use lib.ListN.{length, getD}
 use Rattle.types.specs.Ty.{same}
 use Rattle.types.specs.Table.{SameSizes}
 use Rattle.fallible.specs.Outcome.{Outcome, refused, accepted}
-use Rattle.node.specs.Bytes.{byteAt}
-use Rattle.node.specs.Layout.{isEmptyFile, layoutOf}
-use Rattle.node.specs.declared.layout.Layout.the-variants.{Good}
-use Rattle.node.specs.Names.{namesOf, itemsOf, sameBytes}
-use Rattle.node.specs.Record.{itemSlotPlaces}
-use Rattle.node.specs.Tree.{TypeNode, nameType, voidType, pointerType, arrayType, structType, noFields, fieldThen}
-use Rattle.node.specs.Tree.{Parameter, Item, functionDefinition, typeAlias, globalDeclaration, otherItem}
+use Rattle.record_bytes.specs.Bytes.{byteAt}
+use Rattle.layout.specs.Layout.{isEmptyFile, layoutOf}
+use Rattle.layout.specs.declared.Layout.the-variants.{Good}
+use Rattle.names.specs.Names.{namesOf, itemsOf, sameBytes}
+use Rattle.trees.specs.Record.{itemSlotPlaces}
+use Rattle.trees.specs.Tree.{TypeNode, nameType, voidType, pointerType, arrayType, structType, noFields, fieldThen}
+use Rattle.trees.specs.Tree.{Parameter, Item, functionDefinition, typeAlias, globalDeclaration, otherItem}
 use Rattle.meaning.specs.TypeError.{TypeError, Operand, plain, row}
 use Rattle.meaning.specs.Context.{each}
 use Rattle.meaning.specs.Promise.{Counts, Buffers, lengthsOf, Checked, treesOf, itemAt, outputAt, itemCount}
-use Rattle.meaning.specs.Promise.{inSlot, slotTypes, errorListOf}
+use Rattle.meaning.specs.Promise.{inSlot, slotTypes, errorListOf, fromItem}
 
 -- A run: what it was given, what it left and what it answered
 pub record Run : Type 0 where
@@ -98,7 +98,7 @@ pub record Alike (bytes output rows output′ rows′ : List ℕ) : Type 0 where
   pub others : (i : ℕ) → inSlot (itemSlotPlaces bytes) i ≡ false → byteAt output i ≡ byteAt output′ i
   pub slots : slotTypes rows output (itemSlotPlaces bytes) ≡ slotTypes rows′ output′ (itemSlotPlaces bytes)
 
--- Two errors are the same when all their words are, operands that are row numbers unfolded
+-- Two errors are the same when all their words are, operands that are row numbers unfolded and the place counted from the start of its item
 unfoldable pub sameOperand : Operand → Operand → Bool
 sameOperand (plain m) (plain n) = eqb m n
 sameOperand (plain m) (row u) = false
@@ -108,7 +108,7 @@ sameOperand (row t) (row u) = same t u
 abbrev pub sameError : TypeError → TypeError → Bool
 sameError e f =
     eqb (e .kind) (f .kind) && eqb (e .file) (f .file) && eqb (e .line) (f .line) && eqb (e .column) (f .column)
-    && sameOperand (e .first) (f .first) && sameOperand (e .second) (f .second) && sameOperand (e .third) (f .third)
+    && sameOperand (e .first) (f .first) && sameOperand (e .second) (f .second) && sameOperand (e .third) (f .third) && eqb (e .place) (f .place)
 
 -- What holds of the two runs where both are accepted
 pub record AcceptedAlike (c d : Run) (countsC countsD : Counts) : Type 0 where
@@ -118,8 +118,8 @@ pub record AcceptedAlike (c d : Run) (countsC countsD : Counts) : Type 0 where
   pub items : (i j : ℕ) → i < itemCount (c .input) → j < itemCount (d .input) → itemAt (c .input) i ≡ itemAt (d .input) j
       → Alike (itemAt (c .input) i) (outputAt (c .input) (c .after .output) i) (c .after .rows) (outputAt (d .input) (d .after .output) j) (d .after .rows)
   pub errors : (e : TypeError)
-      → timesIn sameError e (errorListOf (c .after .rows) (c .after .errors) (countsC .errors))
-      ≡ timesIn sameError e (errorListOf (d .after .rows) (d .after .errors) (countsD .errors))
+      → timesIn sameError e (map (fromItem (c .input)) (errorListOf (c .after .rows) (c .after .errors) (countsC .errors)))
+      ≡ timesIn sameError e (map (fromItem (d .input)) (errorListOf (d .after .rows) (d .after .errors) (countsD .errors)))
 
 -- The one is refused exactly when the other is, with the same number and place; where both are accepted they are alike
 abbrev pub SameOutcome : (c d : Run) → Outcome Counts → Outcome Counts → Type 0

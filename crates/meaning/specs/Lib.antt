@@ -6,7 +6,9 @@ pub mod Compound
 pub mod Statement
 pub mod Divergence
 pub mod Module
+pub mod ItemStart
 pub mod Promise
+pub mod Words
 pub mod JoiningOrder
 pub mod BenchSheet
 pub mod Examples

@@ -6,8 +6,8 @@ use mathlib.Core.Option.{Option, none, some}
 use lib.ListN.{length}
 use Rattle.types.specs.Ty.{Ty, end, void, function, argument, alias, distinct, same, removeAliasing, parts, fixedTypes}
 use Rattle.types.specs.Ty.{distinctCount}
-use Rattle.node.specs.Tree.{Location, TypeNode, Statement, Parameter, Item, functionDefinition, typeAlias}
-use Rattle.node.specs.Tree.{globalDeclaration, otherItem}
+use Rattle.trees.specs.Tree.{Location, TypeNode, Statement, Parameter, Item, functionDefinition, typeAlias}
+use Rattle.trees.specs.Tree.{globalDeclaration, otherItem}
 use Rattle.meaning.specs.TypeError.{TypeError, unless, noBuiltInForInternal, internalMismatch, duplicateAlias}
 use Rattle.meaning.specs.TypeError.{aliasOfBuiltIn, pathsWithoutReturn}
 use Rattle.meaning.specs.Context.{TypeMap, noTypes, isSome, Entry, entry, insertAll, each, ModuleContext, Context}

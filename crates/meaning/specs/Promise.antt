@@ -12,14 +12,15 @@ use Rattle.fallible.specs.Outcome.{Outcome, refused, accepted, firstRefusing, o
 use Rattle.fallible.specs.Operands.{isTypeOperand}
 use Rattle.fallible.specs.Errors.{errorWidth, errorAt, errorsFrom}
 use Rattle.fallible.specs.declared.Error.{Error}
-use Rattle.node.specs.Bytes.{byteAt, wordAt}
-use Rattle.node.specs.Layout.{layoutOf, layoutRefusal}
-use Rattle.node.specs.Names.{sameBytes, namesOf, repeatedName, nameRefusal, namesEnd, itemPlaces, itemBytes, itemsOf}
-use Rattle.node.specs.Record.{itemTree, itemSlotPlaces}
-use Rattle.node.specs.Tree.{Item}
-use Rattle.meaning.specs.TypeError.{TypeError, Operand, plain, row}
-use Rattle.meaning.specs.Context.{TypeMap, ModuleContext}
-use Rattle.meaning.specs.Module.{moduleContext, moduleErrors, neededTypes, itemTypes}
+use Rattle.record_bytes.specs.Bytes.{byteAt, wordAt}
+use Rattle.layout.specs.Layout.{layoutOf, layoutRefusal}
+use Rattle.names.specs.Names.{sameBytes, namesOf, repeatedName, nameRefusal, namesEnd, itemPlaces, itemBytes, itemsOf}
+use Rattle.trees.specs.Record.{itemTree, itemSlotPlaces}
+use Rattle.trees.specs.Tree.{Item}
+use Rattle.meaning.specs.TypeError.{TypeError, Operand, plain, row, movePlace}
+use Rattle.meaning.specs.Context.{TypeMap, each, ModuleContext}
+use Rattle.meaning.specs.Module.{emptyContext, declarations, moduleContext, errorsIn1, moduleErrors, neededTypes, itemErrors, itemTypes}
+use Rattle.meaning.specs.ItemStart.{placeInItem}
 
 -- Four working words a name
 abbrev pub workWidth : ℕ
@@ -125,10 +126,22 @@ unfoldError rows e =
       first = operandOf rows (e .kind) 0 (e .first);
       second = operandOf rows (e .kind) 1 (e .second);
       third = operandOf rows (e .kind) 2 (e .third);
+      place = e .place;
     }
 
 abbrev pub errorListOf : (rows errors : List ℕ) → (count : ℕ) → List TypeError
 errorListOf rows errors count = map (unfoldError rows) (errorsFrom errors 0 count)
+
+-- The errors with their places in the file: those of pass 1, which have none, then those of each item, whose tree counts from the item's start
+abbrev pub placedItemErrors : (input : List ℕ) → (at : ℕ) → List TypeError
+placedItemErrors input at = map (movePlace (λ p. at + p)) (itemErrors (contextOf input) (itemTree (itemBytes input at)))
+
+unfoldable pub placedErrorsOf : (input : List ℕ) → List TypeError
+placedErrorsOf input = each errorsIn1 (declarations (emptyContext (builtInsOf input)) (treesOf input)) ++ each (placedItemErrors input) (itemPlaces input)
+
+-- "that place is counted from the start of its item"
+abbrev pub fromItem : (input : List ℕ) → TypeError → TypeError
+fromItem input e = movePlace (placeInItem input) e
 
 -- The operands that are row numbers are type rows of the table
 pub record OperandsExist (rows : List ℕ) (count : ℕ) (e : Error) : Type 0 where
@@ -169,7 +182,7 @@ itemCount input = length (itemPlaces input)
 pub record Accepted (input : List ℕ) (before after : Buffers) (counts : Counts) : Type 0 where
   pub table : Table (after .rows) (counts .rows)
   pub types : (t : Ty) → hasType (after .rows) (counts .rows) t ≡ member t (typesOf input)
-  pub errors : errorListOf (after .rows) (after .errors) (counts .errors) ≡ errorsOf input
+  pub errors : errorListOf (after .rows) (after .errors) (counts .errors) ≡ placedErrorsOf input
   pub operands : (i : ℕ) → i < counts .errors → OperandsExist (after .rows) (counts .rows) (errorAt (after .errors) i)
   pub names : take (namesEnd input) (after .output) ≡ take (namesEnd input) input
   pub items : (i : ℕ) → i < itemCount input

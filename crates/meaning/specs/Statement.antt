@@ -4,9 +4,9 @@ use mathlib.Core.Bool.{Bool, cond, not}
 use mathlib.Core.List.{List, [], _∷_, _++_}
 use mathlib.Core.Option.{Option, none, some}
 use Rattle.types.specs.Ty.{Ty, void, bool, same}
-use Rattle.node.specs.Tree.{Location, Expression, Statement, block, expression, variableDeclaration}
-use Rattle.node.specs.Tree.{assignment, compoundAssignment, return, loop, while, break, «if», ifElse, inlineAssembly}
-use Rattle.node.specs.Tree.{noStatements, statementThen}
+use Rattle.trees.specs.Tree.{Location, Expression, Statement, block, expression, variableDeclaration}
+use Rattle.trees.specs.Tree.{assignment, compoundAssignment, return, loop, while, break, «if», ifElse, inlineAssembly}
+use Rattle.trees.specs.Tree.{noStatements, statementThen}
 use Rattle.meaning.specs.TypeError.{TypeError, unless, localRedefined, returnNeedsValue}
 use Rattle.meaning.specs.Context.{Context, context, Entry, entry, insert, isSome}
 use Rattle.meaning.specs.Convert.{Slot, convertNodeType, conversionErrors, conversionSlots}

@@ -1,16 +1,18 @@
--- The 29 errors of document 01, "Errors": operands that are rows there are unfolded types here.
+-- The 29 errors of document 01, "Errors", with the eighth word of document 02, paper 1. Operands that are rows there are unfolded types here.
 use Prim.Native.Nat.{ℕ}
 use mathlib.Core.Bool.{Bool, cond}
 use mathlib.Core.List.{List, [], _∷_}
+use lib.Dec.{eqb}
 use Rattle.types.specs.Ty.{Ty}
-use Rattle.node.specs.Tree.{Location}
+use Rattle.fallible.specs.Operands.{mismatchKind, literalKind}
+use Rattle.trees.specs.Tree.{Location}
 
 -- An operand: a plain word (the number of a name, an operator, a count), or a row unfolded
 pub data Operand : Type 0 where
   plain : ℕ → Operand
   row : Ty → Operand
 
--- The words of an error
+-- The words of an error. The place is that of a bad literal's record, counted like the places of the tree that it stands in; else 0
 pub record TypeError : Type 0 where
   pub kind : ℕ
   pub file : ℕ
@@ -19,10 +21,11 @@ pub record TypeError : Type 0 where
   pub first : Operand
   pub second : Operand
   pub third : Operand
+  pub place : ℕ
 
 -- At a record; unused operands are 0
 abbrev pub error : (kind : ℕ) → Location → (first second third : Operand) → TypeError
-error k l a b c = record { kind = k; file = l .file; line = l .line; column = l .column; first = a; second = b; third = c }
+error k l a b c = record { kind = k; file = l .file; line = l .line; column = l .column; first = a; second = b; third = c; place = 0 }
 
 abbrev pub unused : Operand
 unused = plain 0
@@ -34,7 +37,7 @@ abbrev pub noBuiltInForInternal : Location → (name : ℕ) → TypeError
 noBuiltInForInternal l name = error 2 l (plain name) unused unused
 
 abbrev pub internalMismatch : Location → (name : ℕ) → Ty → TypeError
-internalMismatch l name t = error 3 l (plain name) (row t) unused
+internalMismatch l name t = error mismatchKind l (plain name) (row t) unused
 
 abbrev pub duplicateAlias : Location → (name : ℕ) → TypeError
 duplicateAlias l name = error 4 l (plain name) unused unused
@@ -93,8 +96,9 @@ leftNotBoolean l t = error 21 l (row t) unused unused
 abbrev pub rightNotBoolean : Location → Ty → TypeError
 rightNotBoolean l t = error 22 l (row t) unused unused
 
+-- The one error that has a place
 abbrev pub literalOutOfRange : Location → TypeError
-literalOutOfRange l = error 23 l unused unused unused
+literalOutOfRange l = record { kind = literalKind; file = l .file; line = l .line; column = l .column; first = unused; second = unused; third = unused; place = l .at }
 
 abbrev pub invalidOperands : Location → (operator : ℕ) → (left right : Ty) → TypeError
 invalidOperands l operator left right = error 24 l (plain operator) (row left) (row right)
@@ -117,3 +121,17 @@ fieldTwice l name = error 29 l (plain name) unused unused
 -- One error unless a test holds
 abbrev pub unless : Bool → TypeError → List TypeError
 unless holds e = cond holds [] (e ∷ [])
+
+-- A bad literal's place changed; other errors have none
+abbrev pub movePlace : (ℕ → ℕ) → TypeError → TypeError
+movePlace f e =
+    record {
+      kind = e .kind;
+      file = e .file;
+      line = e .line;
+      column = e .column;
+      first = e .first;
+      second = e .second;
+      third = e .third;
+      place = cond (eqb (e .kind) literalKind) (f (e .place)) (e .place);
+    }

@@ -16,17 +16,17 @@ use Rattle.shape.specs.declared.Holds.{Holds}
 use Rattle.shape.specs.declared.Holds.the-variants.{Nothing, OneModule, NamesThenItems, Items}
 use Rattle.shape.specs.declared.Due.{Due}
 use Rattle.shape.proofs.ShapeLaws.{and-both, module-kind}
-use Rattle.node.specs.Bytes.{halfAt, wordAt}
-use Rattle.node.specs.Names.{nameCount, namesEnd, itemPlaces, chain, stands}
-use Rattle.node.specs.Layout.{maxBytes, maxDepth, kindAt, shapeAt, classAt, startAt, stopAt, isBad, headAt, answerIf, andThen, afterHead, listAt, recordAt, layoutOf}
+use Rattle.record_bytes.specs.Bytes.{halfAt, wordAt}
+use Rattle.names.specs.Names.{nameCount, namesEnd, itemPlaces, chain, stands}
+use Rattle.layout.specs.Layout.{maxBytes, maxDepth, kindAt, shapeAt, classAt, startAt, stopAt, isBad, headAt, answerIf, andThen, afterHead, listAt, recordAt, layoutOf}
 use Rattle.node.specs.Fine.{FineRecord, FineList, Opened, FineNode, Enters, nodeOf}
-use Rattle.node.specs.declared.fine.Node.{Node}
-use Rattle.node.specs.declared.fine.Entered.{Entered}
-use Rattle.node.specs.declared.layout.Layout.{Layout}
-use Rattle.node.specs.declared.layout.Layout.the-variants.{Good, TooLong, Fault, TooDeep}
-use Rattle.node.specs.declared.layout.Head.{Head}
-use Rattle.node.specs.declared.layout.Head.the-variants.{Body, Wrong}
-use Rattle.node.proofs.LayoutLaws.{known, head-good, record-step}
+use Rattle.node.specs.declared.Node.{Node}
+use Rattle.node.specs.declared.Entered.{Entered}
+use Rattle.layout.specs.declared.Layout.{Layout}
+use Rattle.layout.specs.declared.Layout.the-variants.{Good, TooLong, Fault, TooDeep}
+use Rattle.layout.specs.declared.Head.{Head}
+use Rattle.layout.specs.declared.Head.the-variants.{Body, Wrong}
+use Rattle.layout.proofs.LayoutLaws.{known, head-good, record-step}
 
 pub fault-good : {A : Type 0} {p : ℕ} → Fault p ≡ Good → A
 fault-good e = absurd (let z : _≡_ {A = ℕ} 0 1 = cc in omega arith)

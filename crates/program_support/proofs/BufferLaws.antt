@@ -10,7 +10,6 @@ use lib.ListN.{length, take, drop, getD, length-take, length-drop, length-append
 use lib.Seq.{take-all, take-suc, take-length, drop-length, drop-drop}
 use borrow.Author.Tests.{lt-leb, le-leb, leb-true, leb-false}
 use Rattle.io.specs.Digits.{digits, Fewest}
-use Rattle.shape.specs.Shape.{pick}
 use Rattle.program_support.specs.Buffer.{Put, PutNumber, Piece, aText, aNumber, PutAll, wordPieces, refusedLine}
 
 -- A text copied behind the bytes held, in the place of as many of those that follow

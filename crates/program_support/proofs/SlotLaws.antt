@@ -1,22 +1,22 @@
 -- Each exit of `slot_place` and `next_record`. Assumes nothing.
 use Prim.Native.Nat.{ℕ, _+_, _-_, _*_, _≤_, _<_}
 use mathlib.Core.Path.{_≡_, refl, sym, _∙_, ap}
-use mathlib.Core.Bool.{Bool, true, false, _&&_}
+use mathlib.Core.Bool.{Bool, true, false}
 use mathlib.Core.List.{List, [], _∷_}
 use types.Run.{OneOf, miss}
 use denote.Enum.Declared.{tagOf}
 use lib.ListN.{length}
 use native.Mathlib.Omega.{arith}
 use borrow.Author.Tests.{lt-leb, le-leb}
-use Rattle.shape.specs.Shape.{pick, shapeOf, dueIn}
+use Rattle.shape.specs.Shape.{shapeOf, dueIn}
 use Rattle.shape.specs.declared.Rule.{Rule}
 use Rattle.shape.specs.declared.Rule.the-variants.{Unused, Slot, Name, Any, Base, Flag, Operator, Comparison, Flags}
 use Rattle.shape.specs.declared.Shape.{Shape}
 use Rattle.shape.specs.declared.Due.{Due}
 use Rattle.shape.proofs.Rule.{the-type}
-use Rattle.node.specs.Bytes.{halfAt, wordAt}
-use Rattle.node.specs.Record.{isSlot, holdsFreeBytes}
-use Rattle.program_support.specs.Slots.{slotPlaceAt, nextRecordAt, SlotPlace, NextRecord}
+use Rattle.record_bytes.specs.Bytes.{halfAt, wordAt}
+use Rattle.trees.specs.Record.{isSlot, holdsFreeBytes}
+use Rattle.program_support.specs.Slots.{SlotPlace, NextRecord}
 
 -- A rule that is one of the others
 no-slot : (r : Rule) → OneOf (0 ∷ 2 ∷ 3 ∷ 4 ∷ 5 ∷ 6 ∷ 7 ∷ 8 ∷ []) (tagOf the-type r) → isSlot r ≡ false

@@ -6,9 +6,9 @@ use mathlib.Core.List.{List}
 use lib.Dec.{leb}
 use lib.ListN.{length}
 use Rattle.shape.specs.Shape.{pick}
-use Rattle.node.specs.Bytes.{headEnd, fieldEnd}
-use Rattle.node.specs.Layout.{kindAt, startAt, stopAt, isWhole}
-use Rattle.node.specs.Record.{hasSlot, holdsFreeBytes}
+use Rattle.record_bytes.specs.Bytes.{headEnd, fieldEnd}
+use Rattle.layout.specs.Layout.{kindAt, startAt, stopAt, isWhole}
+use Rattle.trees.specs.Record.{hasSlot, holdsFreeBytes}
 
 -- Where the slot of the record at `at` stands: after its head, if there is room for a field and its kind has a slot; else the end of the bytes
 abbrev pub slotPlaceAt : List ℕ → (at : ℕ) → ℕ

@@ -2,14 +2,16 @@
 // output as long as the longest module. The input has room for one byte more, so that a module that is too long is
 // seen.
 use fallible::ERROR_WIDTH;
-use node::layout::MAX_BYTES;
+use layout::MAX_BYTES;
 use rows::ROW_WIDTH;
 
 pub const INPUT: usize = MAX_BYTES + 1;
 
 pub const OUTPUT: usize = MAX_BYTES;
 
-pub const ROWS: usize = 3000 * ROW_WIDTH;
+pub const ROW_COUNT: usize = 3000;
+
+pub const ROWS: usize = ROW_COUNT * ROW_WIDTH;
 
 pub const ERROR_COUNT: usize = 2000;
 

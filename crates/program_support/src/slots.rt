@@ -1,11 +1,11 @@
 // The records of a module in byte order, and their slots. What the module's layout promises is tested here, not asked
 // for.
-use node::bytes::FIELD;
-use node::bytes::FIELD_END;
-use node::bytes::HEAD_END;
-use node::bytes::KIND;
-use node::bytes::half;
-use node::bytes::length_at;
+use record_bytes::FIELD;
+use record_bytes::FIELD_END;
+use record_bytes::HEAD_END;
+use record_bytes::KIND;
+use record_bytes::half;
+use record_bytes::length_at;
 use shape::Rule;
 use shape::due_in;
 use shape::shape_of;

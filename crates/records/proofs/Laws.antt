@@ -21,6 +21,7 @@ pub error-read : (words : List ℕ) (number : ℕ)
       first = errorWord words number 4;
       second = errorWord words number 5;
       third = errorWord words number 6;
+      place = errorWord words number 7;
     }
     ≡ errorAt words number
 unfolding errorAt
@@ -35,6 +36,7 @@ error-read words number =
       first = errorWord words number 4;
       second = errorWord words number 5;
       third = errorWord words number 6;
+      place = errorWord words number 7;
     }
 
 -- As many as asked for, and as many records as were lent.

@@ -13,15 +13,16 @@ use Rattle.types.specs.Table.{rowWidth}
 use Rattle.fallible.specs.Outcome.{Outcome, refused, accepted, orNext, firstRefusing, outcomeAfter}
 use Rattle.fallible.specs.Errors.{errorWidth, errorsFrom}
 use Rattle.fallible.specs.declared.Error.{Error}
-use Rattle.node.specs.Layout.{layoutOf, layoutRefusal}
-use Rattle.node.specs.Names.{repeatedName, nameRefusal}
-use Rattle.meaning.specs.Promise.{Counts, Buffers, Lengths, lengthsOf, countsOf, refuseIf, answerOf, unfoldError, errorsOf, Checked}
+use Rattle.layout.specs.Layout.{layoutOf, layoutRefusal}
+use Rattle.names.specs.Names.{repeatedName, nameRefusal}
+use Rattle.meaning.specs.Promise.{Counts, Buffers, Lengths, lengthsOf, countsOf, refuseIf, answerOf, unfoldError, placedErrorsOf, Checked}
 use Rattle.meaning.proofs.Cleared.{cleared-all}
 use Rattle.type_check.specs.declared.Answer.{Answer}
 use Rattle.type_check.specs.declared.Answer.the-variants.{Accepted, Refused}
-use Rattle.type_check.specs.declared.Refusal.{Refusal}
-use Rattle.type_check.specs.declared.Refusal.the-variants.{Never, Because}
-use Rattle.type_check.specs.Post.{buffers, outcomeOf, refusalOf, moduleRefusal, loanRefusal}
+use Rattle.module_tests.specs.Refusal.{refusalOf, moduleRefusal}
+use Rattle.module_tests.specs.declared.Refusal.{Refusal}
+use Rattle.module_tests.specs.declared.Refusal.the-variants.{Never, Because}
+use Rattle.type_check.specs.Post.{buffers, outcomeOf, loanRefusal}
 use Rattle.type_check.proofs.Outcomes.{accepted-counts, refused-never}
 use Rattle.type_check.proofs.Promise.{Low as LowRefusal, low-module}
 use Rattle.records.specs.Records.{tooFewWords, wordsFor, CheckedWords, recordsFrom, zeroRecord, recordCount, recordsAfter, CheckedRecords}
@@ -55,23 +56,23 @@ module _ (input : List ℕ) {r : Refusal} (e : refusalOf r ≡ moduleRefusal inp
   earlier q = after q
 
 -- ---- the words
-pub words-short : {input output rows words work : List ℕ} {answer : Outcome Counts} (records : ℕ) → length words / 7 < records → answer ≡ tooFewWords input
+pub words-short : {input output rows words work : List ℕ} {answer : Outcome Counts} (records : ℕ) → length words / errorWidth < records → answer ≡ tooFewWords input
     → CheckedWords input records (buffers output rows words work) (buffers output rows words work) answer
 words-short records p e = record { short = λ q. (e, refl); checked = λ q. absurd (omega arith); past = refl }
 
-pub words-checked : {input output rows work output′ rows′ part work′ : List ℕ} {answer : Outcome Counts} (words : List ℕ) (records : ℕ) → records ≤ length words / 7
-    → Checked input (buffers output rows (take (7 * records) words) work) (buffers output′ rows′ part work′) answer
-    → CheckedWords input records (buffers output rows words work) (buffers output′ rows′ (part ++ drop (7 * records) words) work′) answer
+pub words-checked : {input output rows work output′ rows′ part work′ : List ℕ} {answer : Outcome Counts} (words : List ℕ) (records : ℕ) → records ≤ length words / errorWidth
+    → Checked input (buffers output rows (take (errorWidth * records) words) work) (buffers output′ rows′ part work′) answer
+    → CheckedWords input records (buffers output rows words work) (buffers output′ rows′ (part ++ drop (errorWidth * records) words) work′) answer
 words-checked {input} {output} {rows} {work} {output′} {rows′} {part} {work′} {answer} words records p c =
-    let room : 7 * records ≤ length words = omega arith in
-    let long : length part ≡ 7 * records = ap (λ (l : Lengths). l .errors) (c .lengths) ∙ length-take-le (7 * records) words room in
+    let room : errorWidth * records ≤ length words = omega arith in
+    let long : length part ≡ errorWidth * records = ap (λ (l : Lengths). l .errors) (c .lengths) ∙ length-take-le (errorWidth * records) words room in
     record {
       short = λ q. absurd (omega arith);
       checked =
           λ q.
-          subst (λ (l : List ℕ). Checked input (buffers output rows (take (7 * records) words) work) (buffers output′ rows′ l work′) answer)
-          (sym (take-at part (drop (7 * records) words) (7 * records) long)) c;
-      past = drop-at part (drop (7 * records) words) (7 * records) long;
+          subst (λ (l : List ℕ). Checked input (buffers output rows (take (errorWidth * records) words) work) (buffers output′ rows′ l work′) answer)
+          (sym (take-at part (drop (errorWidth * records) words) (errorWidth * records) long)) c;
+      past = drop-at part (drop (errorWidth * records) words) (errorWidth * records) long;
     }
 
 -- ---- accepted: no test refused
@@ -181,7 +182,7 @@ errors-fit {input} {before} {after} {n} {records′} {answer} {rows} {errors} c 
 
 -- Of an accepted module, the records that are filled are its errors, operands that are row numbers unfolded.
 pub records-mean : {input : List ℕ} {before after : Buffers} {records records′ : List Error} {counts : Counts} → CheckedRecords input before after records records′ (accepted counts)
-    → map (unfoldError (after .rows)) (take (counts .errors) records′) ≡ errorsOf input
+    → map (unfoldError (after .rows)) (take (counts .errors) records′) ≡ placedErrorsOf input
 records-mean {input} {before} {after} {records} {records′} {counts} c =
     let words = wordsFor (length records) after .errors in
     let p = no-more input before after records (c .words) .0 in

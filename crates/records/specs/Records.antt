@@ -9,7 +9,7 @@ use Rattle.fallible.specs.Outcome.{Outcome, refused, accepted, outcomeAfter}
 use Rattle.fallible.specs.Errors.{errorWidth, errorsFrom}
 use Rattle.fallible.specs.declared.Error.{Error}
 use Rattle.meaning.specs.Promise.{Counts, Buffers, Checked}
-use Rattle.type_check.specs.Post.{moduleRefusal}
+use Rattle.module_tests.specs.Refusal.{moduleRefusal}
 
 -- The buffers, with the words of so many records and no more.
 abbrev pub wordsFor : (records : ℕ) → Buffers → Buffers
@@ -19,7 +19,7 @@ wordsFor records b = record { output = b .output; rows = b .rows; errors = take 
 abbrev pub tooFewWords : (input : List ℕ) → Outcome Counts
 tooFewWords input = outcomeAfter (moduleRefusal input) (refused 5 0)
 
--- What is promised of the words, seven for each record lent. Where there are fewer, all is left as it was.
+-- What is promised of the words, eight for each record lent. Where there are fewer, all is left as it was.
 pub record CheckedWords (input : List ℕ) (records : ℕ) (before after : Buffers) (answer : Outcome Counts) : Type 0 where
   pub short : length (before .errors) < errorWidth * records → (answer ≡ tooFewWords input) × (after ≡ before)
   pub checked : errorWidth * records ≤ length (before .errors) → Checked input (wordsFor records before) (wordsFor records after) answer
@@ -31,7 +31,7 @@ recordsFrom words count records = errorsFrom words 0 count ++ drop count records
 
 -- A record of which every field is 0.
 abbrev pub zeroRecord : Error
-zeroRecord = record { kind = 0; file = 0; line = 0; column = 0; first = 0; second = 0; third = 0 }
+zeroRecord = record { kind = 0; file = 0; line = 0; column = 0; first = 0; second = 0; third = 0; place = 0 }
 
 -- How many of the records lent are filled: the errors; turned back with 1 to 5 none, with 6 or 7 all.
 abbrev pub recordCount : (answer : Outcome Counts) → (lent : ℕ) → ℕ

@@ -2,9 +2,9 @@
 // errors.
 use fallible::ERROR_WIDTH;
 use fallible::Error;
+use module_tests::Refusal;
+use module_tests::module_refusal;
 use type_check::Answer;
-use type_check::Refusal;
-use type_check::module_refusal;
 use type_check::type_check_module;
 ghost use mathlib.Core.Path.{_≡_};
 ghost use Prim.Native.Nat.{_+_, _*_, _≤_};
@@ -28,6 +28,7 @@ fn error_at(words: &[u32], number: usize) -> Error
         first: words[at + 4],
         second: words[at + 5],
         third: words[at + 6],
+        place: words[at + 7],
     }
 }
 
@@ -57,7 +58,7 @@ fn too_few_words(input: &[u8]) -> Answer
     }
 }
 
-// `type_check_module` with seven words for each of so many records, and no more.
+// `type_check_module` with eight words for each of so many records, and no more.
 fn check_words(
     input: &[u8],
     output: &mut [u8],
@@ -87,7 +88,7 @@ fn record_count(answer: Answer, lent: usize) -> usize
     }
 }
 
-// Checks a module, and gives its errors as records. The words are lent for the check to work with, seven a record.
+// Checks a module, and gives its errors as records. The words are lent for the check to work with, eight a record.
 pub fn type_check_module_records(
     input: &[u8],
     output: &mut [u8],

@@ -4,8 +4,8 @@ use mathlib.Core.Path.{_≡_, refl, ap}
 use mathlib.Core.Logic.{inl, inr}
 use native.Mathlib.Omega.{arith}
 use lib.ListN.{drop, List·getD-append}
-use Rattle.types.specs.Ty.{same, desugar, aliasKind, distinctKind, arrayKind}
-use Rattle.types.specs.Table.{Words, rowAt, fixedLength, fixedWords, FixedRows, upTo, unfolded, IsType, NameOk, Table}
+use Rattle.types.specs.Ty.{same, desugar, distinctKind}
+use Rattle.types.specs.Table.{Words, rowAt, fixedLength, fixedWords, FixedRows, upTo, unfolded, IsType, Table}
 use Rattle.types.specs.WordSize.{toIrType, irWordSize, sizeWord}
 use Rattle.types.proofs.Fixed.{AllBelow, each-below, fixed-table}
 use Rattle.types.proofs.Rows.{Rows, table-rows, rows-add, points-to-last}

@@ -10,11 +10,11 @@ use lib.Seq.{paste, take-suc, drop-cons, take-at, drop-at, drop-append-add, drop
 use borrow.Author.Tests.{eqb-true, eqb-false}
 use Rattle.shape.specs.Shape.{anItem, dueIn}
 use Rattle.shape.specs.declared.Holds.the-variants.{Items}
-use Rattle.node.specs.Bytes.{wordAt}
-use Rattle.node.specs.Names.{chain, namesEnd, itemPlaces, itemBytes}
-use Rattle.node.specs.Layout.{stopAt, layoutOf}
+use Rattle.record_bytes.specs.Bytes.{wordAt}
+use Rattle.names.specs.Names.{chain, namesEnd, itemPlaces, itemBytes}
+use Rattle.layout.specs.Layout.{stopAt, layoutOf}
 use Rattle.node.specs.Fine.{FineRecord, FineList}
-use Rattle.node.specs.declared.layout.Layout.the-variants.{Good}
+use Rattle.layout.specs.declared.Layout.the-variants.{Good}
 use Rattle.node.proofs.Open.{opened, split-may, fine-stands, names-inside, few-bytes, items-list, item-chain}
 use Rattle.meaning.proofs.Permutation.{along, invariant}
 use Rattle.reorder.specs.Order.{joined, arranged, Places}

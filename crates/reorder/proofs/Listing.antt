@@ -9,13 +9,13 @@ use lib.Seq.{take-suc-set, append-snoc}
 use borrow.Author.Tests.{lt-leb}
 use Rattle.shape.specs.Shape.{anItem, dueIn}
 use Rattle.shape.specs.declared.Holds.the-variants.{Items}
-use Rattle.node.specs.Bytes.{wordAt}
-use Rattle.node.specs.Names.{stands, chain, namesEnd, itemPlaces}
-use Rattle.node.specs.Layout.{layoutOf, maxBytes}
+use Rattle.record_bytes.specs.Bytes.{wordAt}
+use Rattle.names.specs.Names.{stands, chain, namesEnd, itemPlaces}
+use Rattle.layout.specs.Layout.{layoutOf, maxBytes}
 use Rattle.node.specs.Fine.{FineList}
-use Rattle.node.specs.declared.layout.Layout.the-variants.{Good}
+use Rattle.layout.specs.declared.Layout.the-variants.{Good}
 use Rattle.node.proofs.Open.{opened, split-may, fine-stands, few-bytes, items-list, item-chain}
-use Rattle.node.proofs.NameLaws.{chain-none, chain-more}
+use Rattle.names.proofs.NameLaws.{chain-none, chain-more}
 use Rattle.reorder.specs.Order.{maxItems, PlacesListed}
 
 -- The records before `at` are listed, those after it are left; each has at least 16 bytes

@@ -12,11 +12,11 @@ use Rattle.shape.specs.Shape.{pick, shapeOf, dueIn, isDone, mayStand, stateAfte
 use Rattle.shape.specs.declared.Holds.{Holds}
 use Rattle.shape.specs.declared.Holds.the-variants.{Nothing, OneModule, NamesThenItems, Items}
 use Rattle.shape.proofs.ShapeLaws.{module-kind}
-use Rattle.node.specs.Bytes.{wordAt}
-use Rattle.node.specs.Names.{namesEnd, namePlaces, nameBytes, namesOf, nameCount, itemBytes}
-use Rattle.node.specs.Layout.{maxBytes, maxDepth, kindAt, classAt, stopAt, answerIf, afterHead, listAt, recordAt, layoutOf}
-use Rattle.node.specs.declared.layout.Layout.the-variants.{Good, TooLong}
-use Rattle.node.proofs.LayoutLaws.{list-step, record-step}
+use Rattle.record_bytes.specs.Bytes.{wordAt}
+use Rattle.names.specs.Names.{namesEnd, namePlaces, nameBytes, namesOf, nameCount, itemBytes}
+use Rattle.layout.specs.Layout.{maxBytes, maxDepth, kindAt, classAt, stopAt, answerIf, afterHead, listAt, recordAt, layoutOf}
+use Rattle.layout.specs.declared.Layout.the-variants.{Good, TooLong}
+use Rattle.layout.proofs.LayoutLaws.{list-step, record-step}
 use Rattle.node.proofs.Open.{headed, opened, split-must}
 use Rattle.node.proofs.Open.{ModuleRecord, empty-or-record, module-list, module-parts, names-room, names-inside, few-bytes}
 use Rattle.reorder.specs.Order.{joined, arranged, Places}

@@ -11,10 +11,10 @@ use lib.Seq.{getD-take, getD-drop, getD-append-add, take-at, drop-at, length-tak
 use borrow.Author.Tests.{le-leb, leb-true}
 use Rattle.shape.specs.Shape.{pick}
 use Rattle.shape.proofs.ShapeLaws.{and-both}
-use Rattle.node.specs.Bytes.{wordAt}
-use Rattle.node.specs.Names.{stands, chain, namesEnd, namePlaces, nameBytes, namesOf, itemPlaces, itemBytes, itemsOf, sameBytes}
+use Rattle.record_bytes.specs.Bytes.{wordAt}
+use Rattle.names.specs.Names.{stands, chain, namesEnd, namePlaces, nameBytes, namesOf, itemPlaces, itemBytes, itemsOf, sameBytes}
 use Rattle.node.proofs.Open.{ModuleRecord, empty-or-record, module-parts, names-room, names-inside}
-use Rattle.node.proofs.NameLaws.{chain-none}
+use Rattle.names.proofs.NameLaws.{chain-none}
 use Rattle.meaning.specs.JoiningOrder.{timesIn, AnotherOrder}
 use Rattle.meaning.proofs.Permutation.{times-permuted}
 use Rattle.reorder.specs.Order.{joined, arranged, Places}

@@ -10,10 +10,10 @@ use lib.ListN.{length, take, drop}
 use lib.Seq.{length-take-le, take-at}
 use borrow.Author.Tests.{lt-ltb, le-ltb}
 use Rattle.fallible.specs.Outcome.{Outcome, refused, accepted, orNext, outcomeAfter}
-use Rattle.node.specs.Layout.{layoutOf, layoutRefusal, layoutTests}
-use Rattle.node.specs.declared.layout.Layout.{Layout}
-use Rattle.node.specs.declared.layout.Layout.the-variants.{Good, TooLong, Fault, TooDeep}
-use Rattle.node.proofs.LayoutLaws.{only-good}
+use Rattle.layout.specs.Layout.{layoutOf, layoutRefusal, layoutTests}
+use Rattle.layout.specs.declared.Layout.{Layout}
+use Rattle.layout.specs.declared.Layout.the-variants.{Good, TooLong, Fault, TooDeep}
+use Rattle.layout.proofs.LayoutLaws.{only-good}
 use Rattle.meaning.specs.Promise.{refuseIf}
 use Rattle.meaning.proofs.Permutation.{length-permuted}
 use Rattle.reorder.specs.Order.{arranged, permutedBy, shuffledModule, PlacesListed, Places, refusal, Shuffled}

@@ -4,9 +4,9 @@ use mathlib.Core.Path.{_≡_, _∙_, ap}
 use mathlib.Core.List.{List, [], map}
 use lib.ListN.{length, take}
 use lib.Seq.{length-take-le, take-at}
-use Rattle.node.specs.Names.{namesEnd, itemPlaces, itemBytes}
-use Rattle.node.specs.Layout.{layoutOf}
-use Rattle.node.specs.declared.layout.Layout.the-variants.{Good}
+use Rattle.names.specs.Names.{namesEnd, itemPlaces, itemBytes}
+use Rattle.layout.specs.Layout.{layoutOf}
+use Rattle.layout.specs.declared.Layout.the-variants.{Good}
 use Rattle.node.proofs.Open.{names-inside}
 use Rattle.meaning.specs.JoiningOrder.{AnotherOrder}
 use Rattle.reorder.specs.Order.{joined, arranged, permutedBy, shuffledModule, Places, Reordered}

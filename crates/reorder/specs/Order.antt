@@ -6,9 +6,9 @@ use mathlib.Core.Option.{Option}
 use lib.Dec.{ltb}
 use lib.ListN.{length, getD, set, take, drop}
 use Rattle.fallible.specs.Outcome.{Outcome, refused, accepted, orNext, outcomeAfter}
-use Rattle.node.specs.Names.{namesEnd, itemPlaces, itemBytes}
-use Rattle.node.specs.Layout.{layoutOf, layoutRefusal}
-use Rattle.node.specs.declared.layout.Layout.the-variants.{Good}
+use Rattle.names.specs.Names.{namesEnd, itemPlaces, itemBytes}
+use Rattle.layout.specs.Layout.{layoutOf, layoutRefusal}
+use Rattle.layout.specs.declared.Layout.the-variants.{Good}
 use Rattle.meaning.specs.Promise.{refuseIf}
 use Rattle.meaning.specs.JoiningOrder.{AnotherOrder}
 use Rattle.reorder.specs.declared.Answer.{Answer}

@@ -1,16 +1,16 @@
 // A module with its items in another order, which a number decides.
-use node::bytes::length_at;
-use node::layout::Layout;
-use node::layout::check_layout;
-use node::layout::items_start;
+use layout::Layout;
+use layout::check_layout;
+use node::items_start;
+use record_bytes::length_at;
 ghost use mathlib.Core.Path.{_≡_};
 ghost use mathlib.Core.List.{_++_};
 ghost use Prim.Native.Nat.{_+_, _<_, _≤_};
 ghost use lib.ListN.{length, drop};
 ghost use lib.Seq.{paste};
 ghost use Rattle.contract.specs.Moments.{old, final};
-ghost use Rattle.node.specs.Layout.{layoutOf};
-ghost use Rattle.node.specs.declared.layout.Layout.the-variants.{Good};
+ghost use Rattle.layout.specs.Layout.{layoutOf};
+ghost use Rattle.layout.specs.declared.Layout.the-variants.{Good};
 ghost use Rattle.reorder.specs.Order.{arranged, exchanged, modulus, nextNumber, permutedBy, shuffledModule};
 ghost use Rattle.reorder.specs.Order.{maxItems, PlacesListed, Places, outcomeOf, Shuffled};
 

@@ -4,7 +4,7 @@ use mathlib.Core.Bool.{cond}
 use mathlib.Core.List.{List}
 use lib.Dec.{leb}
 use lib.ListN.{length}
-use Rattle.node.specs.Bytes.{wordAt}
+use Rattle.record_bytes.specs.Bytes.{wordAt}
 
 -- The word of this number in a part of a case; 0 past its last whole word
 abbrev pub partWord : (part : List ℕ) (i : ℕ) → ℕ

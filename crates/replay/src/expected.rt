@@ -1,5 +1,5 @@
 // The words of a case. Those that are numbers of its rows are translated to the checker's numbers.
-use node::bytes::word;
+use record_bytes::word;
 ghost use mathlib.Core.Path.{_≡_};
 ghost use lib.ListN.{getD};
 ghost use Rattle.contract.specs.Moments.{old};

@@ -1,7 +1,9 @@
 // One case: the checker is run with what the case lends, and what it leaves is compared.
+use crate::case::ASKED;
 use crate::case::ERROR_COUNT;
 use crate::case::ERRORS;
 use crate::case::HEAD;
+use crate::case::MESSAGES;
 use crate::case::MODULE;
 use crate::case::NUMBER;
 use crate::case::OUTPUT;
@@ -16,6 +18,7 @@ use crate::errors::errors_match;
 use crate::expected::word_of;
 use crate::lent::fill;
 use crate::lent::lent_match;
+use crate::messages::judge_messages;
 use crate::output::output_matches;
 use crate::row_numbers::rows_match;
 use fallible::ERROR_WIDTH;
@@ -127,9 +130,9 @@ fn judge_module(
     }
 }
 
-// Lends what the case says, runs the checker and compares. A case that is not whole, or that asks for more than there
-// is, differs.
-pub(crate) fn judge(
+// Lends what a case of a check says, runs the checker and compares. A case that is not whole, or that asks for more
+// than there is, differs.
+fn judge_check(
     case: &[u8],
     output: &mut [u8],
     rows: &mut [u32],
@@ -168,4 +171,18 @@ pub(crate) fn judge(
         &mut errors[0..error_words],
         &mut work[0..words],
     )
+}
+
+// A case of either sort.
+pub(crate) fn judge(
+    case: &[u8],
+    output: &mut [u8],
+    rows: &mut [u32],
+    errors: &mut [u32],
+    work: &mut [u32],
+) -> Verdict {
+    if word_of(case, ASKED) == MESSAGES {
+        return judge_messages(case, output, rows, errors, work);
+    }
+    judge_check(case, output, rows, errors, work)
 }

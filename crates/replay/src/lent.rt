@@ -19,7 +19,7 @@ const ROWS_BUFFER: u32 = 1;
 
 const ERRORS_BUFFER: u32 = 2;
 
-const WORK_BUFFER: u32 = 3;
+pub(crate) const WORK_BUFFER: u32 = 3;
 
 // What the word at this place of a buffer holds before a case: another in each buffer, never 0, and larger than any row
 // number, count or place.
@@ -32,7 +32,7 @@ fn byte_before(i: usize) -> u8 {
     (i % 251 + 1) as u8
 }
 
-fn fill_words(words: &mut [u32], buffer: u32) {
+pub(crate) fn fill_words(words: &mut [u32], buffer: u32) {
     let mut i = 0;
     while i < words.len() {
         words[i] = word_before(buffer, i);
@@ -40,7 +40,7 @@ fn fill_words(words: &mut [u32], buffer: u32) {
     }
 }
 
-fn fill_bytes(bytes: &mut [u8]) {
+pub(crate) fn fill_bytes(bytes: &mut [u8]) {
     let mut i = 0;
     while i < bytes.len() {
         bytes[i] = byte_before(i);
@@ -86,7 +86,7 @@ fn are_zero_bytes(bytes: &[u8], end: usize) -> bool {
 }
 
 // Whether the words from a place on are as they were.
-fn are_kept(words: &[u32], from: usize, buffer: u32) -> bool {
+pub(crate) fn are_kept(words: &[u32], from: usize, buffer: u32) -> bool {
     let mut i = from;
     while i < words.len() {
         if words[i] != word_before(buffer, i) {
@@ -97,7 +97,7 @@ fn are_kept(words: &[u32], from: usize, buffer: u32) -> bool {
     true
 }
 
-fn are_kept_bytes(bytes: &[u8], from: usize) -> bool {
+pub(crate) fn are_kept_bytes(bytes: &[u8], from: usize) -> bool {
     let mut i = from;
     while i < bytes.len() {
         if bytes[i] != byte_before(i) {

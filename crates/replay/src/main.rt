@@ -1,22 +1,23 @@
-// Runs the checker on cases whose answers are known, and prints a line for each of the first that differ, then how
-// many were accepted and refused as expected and how many differ. Standard input is a list of cases (src/case.rt).
+// Runs the checker and `messages` on cases whose answers are known, and prints a line for each of the first that
+// differ, then how many were accepted and refused as expected and how many differ. Standard input is a list of cases (src/case.rt).
 mod case;
 mod errors;
 mod expected;
 mod judge;
 mod lent;
+mod messages;
 mod output;
 mod row_numbers;
 
 use judge::Verdict;
 use judge::judge;
 use libc::STDIN_FILENO;
-use node::bytes::length_at;
 use program_support::loans;
 use program_support::print::BUFFER;
 use program_support::print::flush;
 use program_support::print::put_text;
 use program_support::print::put_word;
+use record_bytes::length_at;
 ghost use Prim.Native.Nat.{_+_, _<_, _≤_};
 ghost use lib.ListN.{length};
 ghost use Rattle.contract.specs.Moments.{final};

@@ -2,10 +2,10 @@
 use crate::expected::number_of;
 use crate::expected::word_of;
 use check::same;
-use node::bytes::FIELD;
-use node::bytes::word;
 use program_support::slots::next_record;
 use program_support::slots::slot_place;
+use record_bytes::FIELD;
+use record_bytes::word;
 ghost use mathlib.Core.Path.{_≡_};
 ghost use Prim.Native.Nat.{_≤_};
 ghost use lib.ListN.{length};

@@ -13,7 +13,7 @@ use Rattle.type_check.specs.declared.Answer.the-variants.{Accepted}
 use Rattle.type_check.specs.Post.{outcomeOf}
 use Rattle.records.specs.Records.{wordsFor, recordsAfter, CheckedRecords}
 use Rattle.records.proofs.Laws.{errors-long}
-use Rattle.program_support.specs.Buffer.{Piece, aText, aNumber, Put, PutNumber, PutAll, wordPieces}
+use Rattle.program_support.specs.Buffer.{Piece, aText, Put, PutNumber, PutAll, wordPieces}
 use Rattle.program_support.proofs.BufferLaws.{then-all}
 use Rattle.report.specs.Lines.{countsLine, errorLine, errorLines}
 

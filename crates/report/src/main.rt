@@ -39,6 +39,7 @@ fn zero_records() -> [Error; ERROR_COUNT]
         first: 0,
         second: 0,
         third: 0,
+        place: 0,
     };
     [zero; ERROR_COUNT]
 }

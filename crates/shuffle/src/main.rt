@@ -1,9 +1,9 @@
 // Writes the module on standard input with its items in another order, which a number decides:  shuffle 7 < module >
 // other What is wrong with the number or the module is written to standard error, and then nothing to standard output.
+use layout::MAX_BYTES;
 use libc::STDERR_FILENO;
 use libc::STDIN_FILENO;
 use libc::STDOUT_FILENO;
-use node::layout::MAX_BYTES;
 use reorder::Answer;
 use reorder::MODULUS;
 ghost use Prim.Native.Nat.{_≤_};

@@ -5,14 +5,14 @@ use mathlib.Core.Bool.{Bool, true, false, cond, _||_}
 use mathlib.Core.List.{List, [], _∷_, map, map-id}
 use mathlib.Core.Option.{some}
 use lib.Dec.{eqb}
-use Rattle.node.specs.Tree.{Location, TypeNode, Expression, CompoundField, Statement, Parameter, Item}
-use Rattle.node.specs.Tree.{call, index, cast, pointerTake, pointerDereference, fieldAccess, bitwiseNot, booleanNot, booleanAnd, arithmeticBinOp, comparisonBinOp, expressionThen}
-use Rattle.node.specs.Tree.{arrayCompound, structCompound, assigned, compounded, block, expression, variableDeclaration, assignment, compoundAssignment, return, loop, while, «if», ifElse, statementThen}
-use Rattle.node.specs.Tree.{functionDefinition, typeAlias, globalDeclaration}
-use Rattle.node.specs.Record.{RecordHead, Records, noRecords, recordThen, next, typeOf, toType, expressionList, firstExpression, laterExpressions, secondExpression, expressionOf, toExpressions, toExpression}
-use Rattle.node.specs.Record.{toCompoundFields, compoundOf, toCompound, toInitialValue, toOptional, statementList, firstStatement, laterStatements, noneLeft, ifOf, statementOf, toStatements, toParameters, toBody, isDistinct, isInternal, toItem}
+use Rattle.trees.specs.Tree.{Location, TypeNode, Expression, CompoundField, Statement, Parameter, Item}
+use Rattle.trees.specs.Tree.{call, index, cast, pointerTake, pointerDereference, fieldAccess, bitwiseNot, booleanNot, booleanAnd, arithmeticBinOp, comparisonBinOp, expressionThen}
+use Rattle.trees.specs.Tree.{arrayCompound, structCompound, assigned, compounded, block, expression, variableDeclaration, assignment, compoundAssignment, return, loop, while, «if», ifElse, statementThen}
+use Rattle.trees.specs.Tree.{functionDefinition, typeAlias, globalDeclaration}
+use Rattle.trees.specs.Record.{RecordHead, Records, noRecords, recordThen, next, typeOf, toType, expressionList, firstExpression, laterExpressions, secondExpression, expressionOf, toExpressions, toExpression}
+use Rattle.trees.specs.Record.{toCompoundFields, compoundOf, toCompound, toInitialValue, toOptional, statementList, firstStatement, laterStatements, noneLeft, ifOf, statementOf, toStatements, toParameters, toBody, isDistinct, isInternal, toItem}
 use Rattle.meaning.specs.Module.{isTaken, aliasEntries, globalEntries, declarationErrors, declaredTypes, itemErrors, itemSlots}
-use Rattle.slot_places.proofs.Move.{moved, placeless, moveSlot, moveType, moveExpression, move-keeps, none-keeps}
+use Rattle.slot_places.proofs.Move.{same-places, moved, placeless, moveType, moveExpression, move-keeps, none-keeps}
 use Rattle.slot_places.proofs.Change.{changeField, changeCompound, changeValue, changeOption, changeStatement, changeParameter, changeItem, SameItem, same-item}
 
 abbrev pub moveHead : (ℕ → ℕ) → RecordHead → RecordHead
@@ -241,8 +241,8 @@ module _ (g : ℕ → ℕ) where
       (either (changeItem (λ e. e) (λ t. t)) (changeItem (moveExpression g) (moveType g)) (eqb (h .kind) 83)
       (ap₂ (globalDeclaration l (h .first)) t (ap (λ r. changeValue (λ e. e) (toInitialValue r)) n ∙ value-move (next children))) refl))
 
--- An item whose records stand elsewhere means the same, and its slots stand elsewhere
-pub moved-item : (g : ℕ → ℕ) (r : Records) → SameItem (moveSlot g) (toItem (moveRecords g r)) (toItem r)
+-- An item whose records stand elsewhere means the same, and its slots and bad literals stand elsewhere
+pub moved-item : (g : ℕ → ℕ) (r : Records) → SameItem g (toItem (moveRecords g r)) (toItem r)
 moved-item g r =
     let i : Item = toItem (moveRecords g r) in
     let a = same-item none-keeps i in
@@ -254,6 +254,6 @@ moved-item g r =
       globals = λ ctx. sym (a .globals ctx) ∙ ap (globalEntries ctx) e ∙ b .globals ctx;
       errors1 = λ ctx taken. sym (a .errors1 ctx taken) ∙ ap (declarationErrors ctx taken) e ∙ b .errors1 ctx taken;
       types1 = λ ctx. sym (a .types1 ctx) ∙ ap (declaredTypes ctx) e ∙ b .types1 ctx;
-      errors2 = λ ctx. sym (a .errors2 ctx) ∙ ap (itemErrors ctx) e ∙ b .errors2 ctx;
+      errors2 = λ ctx. sym (same-places (itemErrors ctx i)) ∙ sym (a .errors2 ctx) ∙ ap (itemErrors ctx) e ∙ b .errors2 ctx;
       slots = λ ctx. sym (map-id (itemSlots ctx i)) ∙ sym (a .slots ctx) ∙ ap (itemSlots ctx) e ∙ b .slots ctx;
     }

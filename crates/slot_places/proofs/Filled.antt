@@ -12,19 +12,18 @@ use native.Mathlib.Omega.{arith}
 use native.Mathlib.Bridge.{le-prop}
 use borrow.Author.Tests.{ltb-true, ltb-false}
 use Rattle.types.specs.Table.{IsType}
-use Rattle.node.specs.Bytes.{byteAt, wordAt}
-use Rattle.node.specs.Names.{namesEnd, itemPlaces, itemBytes}
-use Rattle.node.specs.Layout.{stopAt, layoutOf}
-use Rattle.node.specs.Record.{itemTree, itemSlotPlaces}
-use Rattle.node.specs.declared.layout.Layout.the-variants.{Good}
-use Rattle.meaning.specs.Context.{ModuleContext, each}
+use Rattle.record_bytes.specs.Bytes.{byteAt, wordAt}
+use Rattle.names.specs.Names.{namesEnd, itemPlaces, itemBytes}
+use Rattle.layout.specs.Layout.{stopAt, layoutOf}
+use Rattle.trees.specs.Record.{itemTree, itemSlotPlaces}
+use Rattle.layout.specs.declared.Layout.the-variants.{Good}
+use Rattle.meaning.specs.Context.{ModuleContext, each, All}
 use Rattle.meaning.specs.Convert.{Slot}
 use Rattle.meaning.specs.Module.{slotType, itemSlots, itemTypes}
 use Rattle.meaning.specs.Promise.{inSlot, slotTypes, ItemFilled, itemPlace, itemAt, outputAt, itemCount}
 use Rattle.walk.specs.Effect.{Store, storeFrom}
 use Rattle.walk.specs.Represents.{Shows, Stored}
 use Rattle.walk.proofs.Slots.{All as AllStores, Inside, stored-slots, stored-others}
-use Rattle.slot_places.specs.Absolute.{All}
 use Rattle.slot_places.specs.Spaced.{Spaced}
 use Rattle.slot_places.specs.Stores.{itemStores, moduleStores}
 use Rattle.slot_places.proofs.Own.{part, own-length, own-byte, own-word}

@@ -11,14 +11,14 @@ use Rattle.shape.specs.declared.Due.{Due}
 use Rattle.shape.specs.declared.Holds.{Holds}
 use Rattle.shape.specs.declared.Holds.the-variants.{Nothing, FreeBytes, OneModule, NamesThenItems, Items, Names, OneType, Fields, OneExpression, TwoExpressions, CallParts, Expressions, ExpressionThenType, CompoundFields, Statements, Declaration, InitialValue, ExpressionThenCompound, OneCompound, OptionalExpression, OneStatement, ExpressionThenStatement, IfParts, ThenPart, OptionalStatement, FunctionParts, Parameters}
 use Rattle.shape.proofs.ShapeLaws.{and-both}
-use Rattle.node.specs.Names.{nameCount}
-use Rattle.node.specs.Layout.{kindAt, classAt, startAt, stopAt, answerIf, andThen, listAt, recordAt}
+use Rattle.names.specs.Names.{nameCount}
+use Rattle.layout.specs.Layout.{kindAt, classAt, startAt, stopAt, answerIf, andThen, listAt, recordAt}
 use Rattle.node.specs.Fine.{FineRecord, FineList}
-use Rattle.node.specs.Record.{Records, noRecords, recordThen, goOn, recordHeadAt, bytesAt, holdsFreeBytes, recordsAt}
-use Rattle.node.specs.declared.layout.Layout.{Layout}
-use Rattle.node.specs.declared.layout.Layout.the-variants.{Good, Fault}
+use Rattle.trees.specs.Record.{Records, noRecords, recordThen, goOn, recordHeadAt, bytesAt, holdsFreeBytes, recordsAt}
+use Rattle.layout.specs.declared.Layout.{Layout}
+use Rattle.layout.specs.declared.Layout.the-variants.{Good, Fault}
 use Rattle.node.proofs.Open.{opened, split}
-use Rattle.node.proofs.Decode.{fine-own, records-cons, records-end}
+use Rattle.trees.proofs.Decode.{fine-own, records-cons, records-end}
 
 -- A state takes records, not bytes
 abbrev pub TakesRecords : Holds → Type 0

@@ -11,19 +11,20 @@ use Rattle.types.specs.Ty.{fixedTypes, parts}
 use Rattle.shape.specs.Shape.{pick, dueIn, anItem}
 use Rattle.shape.specs.declared.Holds.the-variants.{Items}
 use Rattle.shape.proofs.ShapeLaws.{and-both}
-use Rattle.node.specs.Bytes.{wordAt}
-use Rattle.node.specs.Names.{stands, chain, namesEnd, itemPlaces, itemBytes, itemsOf}
-use Rattle.node.specs.Layout.{stopAt, layoutOf}
+use Rattle.record_bytes.specs.Bytes.{wordAt}
+use Rattle.names.specs.Names.{stands, chain, namesEnd, itemPlaces, itemBytes, itemsOf}
+use Rattle.layout.specs.Layout.{stopAt, layoutOf}
 use Rattle.node.specs.Fine.{FineRecord, FineList}
-use Rattle.node.specs.Tree.{Item}
-use Rattle.node.specs.Record.{Records, recordsAt, toItem, itemTree}
-use Rattle.node.specs.declared.layout.Layout.the-variants.{Good}
+use Rattle.trees.specs.Tree.{Item}
+use Rattle.trees.specs.Record.{Records, recordsAt, toItem, itemTree}
+use Rattle.layout.specs.declared.Layout.the-variants.{Good}
 use Rattle.node.proofs.Open.{opened, split-may, items-list, item-chain}
-use Rattle.node.proofs.Decode.{fine-wide}
-use Rattle.meaning.specs.Context.{TypeMap, ModuleContext, insertAll, each}
+use Rattle.trees.proofs.Decode.{fine-wide}
+use Rattle.meaning.specs.TypeError.{movePlace}
+use Rattle.meaning.specs.Context.{TypeMap, ModuleContext, insertAll, each, All}
 use Rattle.meaning.specs.Module.{isTaken, aliasEntries, declarationErrors, slotType, entryType, declare, declarations, declareAll, emptyContext, moduleContext, errorsIn1, typesIn1, itemErrors, itemSlots, itemTypes, moduleErrors, typesMet, neededTypes}
-use Rattle.meaning.specs.Promise.{treesOf, itemPlace, itemAt, itemCount}
-use Rattle.slot_places.specs.Absolute.{moduleItemAt, treesAt, slotAt, All}
+use Rattle.meaning.specs.Promise.{treesOf, builtInsOf, contextOf, placedErrorsOf, itemPlace, itemAt, itemCount}
+use Rattle.slot_places.specs.Absolute.{moduleItemAt, treesAt}
 use Rattle.slot_places.proofs.Change.{SameItem, same-types}
 use Rattle.slot_places.proofs.Decode.{moved-item}
 use Rattle.slot_places.proofs.Own.{own-length, own-item}
@@ -79,18 +80,18 @@ item-long input e j h =
     (n, omega (arith, o .room))
 
 -- One item
-pub same-at : (input : List ℕ) (p : ℕ) → FineRecord input 63 p (length input) anItem → SameItem (slotAt p) (moduleItemAt input p) (itemTree (itemBytes input p))
+pub same-at : (input : List ℕ) (p : ℕ) → FineRecord input 63 p (length input) anItem → SameItem (λ n. p + n) (moduleItemAt input p) (itemTree (itemBytes input p))
 unfolding itemTree itemBytes
 same-at input p f =
     let o = opened input 63 p (length input) anItem f in
     let r = own-item input p (wordAt input p) (o .room) 63 (length input) refl f in
-    subst (λ (x : Records). SameItem (slotAt p) (toItem x) (itemTree (itemBytes input p))) (sym r)
+    subst (λ (x : Records). SameItem (λ n. p + n) (toItem x) (itemTree (itemBytes input p))) (sym r)
     (moved-item (λ n. p + n) (recordsAt (itemBytes input p) 63 0 (length (itemBytes input p))))
 
 -- All of them
 module _ (f g : ℕ → Item) where
   abbrev Alike : ℕ → Type 0
-  Alike p = SameItem (slotAt p) (f p) (g p)
+  Alike p = SameItem (λ n. p + n) (f p) (g p)
 
   module _ (p : ℕ) (a : Alike p) (ctx : ModuleContext) where
     aliases-same : aliasEntries ctx (isTaken (ctx .typeAliases) (f p)) (f p) ≡ aliasEntries ctx (isTaken (ctx .typeAliases) (g p)) (g p)
@@ -106,7 +107,7 @@ module _ (f g : ℕ → Item) where
     types-same = λ i. a .types1 ctx i ++ map entryType (aliases-same i) ++ map entryType (a .globals ctx i)
 
     item-types-same : itemTypes ctx (f p) ≡ itemTypes ctx (g p)
-    item-types-same = ap (map slotType) (a .slots ctx) ∙ same-types (slotAt p) (λ s. refl) (itemSlots ctx (g p))
+    item-types-same = ap (map slotType) (a .slots ctx) ∙ same-types (λ n. p + n) (itemSlots ctx (g p))
 
   context-all : (ps : List ℕ) → All Alike ps → (ctx : ModuleContext) → declareAll ctx (map f ps) ≡ declareAll ctx (map g ps)
   unfolding All declareAll
@@ -125,7 +126,7 @@ module _ (f g : ℕ → Item) where
   types1-all (p ∷ ps) h ctx =
       ap₂ _++_ (types-same p (h .0) ctx) (ap (λ c. each typesIn1 (declarations c (map f ps))) (declare-same p (h .0) ctx) ∙ types1-all ps (h .1) (declare ctx (g p)))
 
-  errors2-all : (ps : List ℕ) → All Alike ps → (ctx : ModuleContext) → each (itemErrors ctx) (map f ps) ≡ each (itemErrors ctx) (map g ps)
+  errors2-all : (ps : List ℕ) → All Alike ps → (ctx : ModuleContext) → each (itemErrors ctx) (map f ps) ≡ each (λ p. map (movePlace (λ n. p + n)) (itemErrors ctx (g p))) ps
   unfolding All each
   errors2-all [] h ctx = refl
   errors2-all (p ∷ ps) h ctx = ap₂ _++_ (h .0 .errors2 ctx) (errors2-all ps (h .1) ctx)
@@ -137,23 +138,22 @@ module _ (f g : ℕ → Item) where
 
 -- The items by their places, and by their own bytes
 pub record SameModule (input : List ℕ) : Type 0 where
-  pub items : All (λ p. SameItem (slotAt p) (moduleItemAt input p) (itemTree (itemBytes input p))) (itemPlaces input)
+  pub items : All (λ p. SameItem (λ n. p + n) (moduleItemAt input p) (itemTree (itemBytes input p))) (itemPlaces input)
   pub context : (ctx : ModuleContext) → declareAll ctx (treesAt input) ≡ declareAll ctx (treesOf input)
   pub errors1 : (ctx : ModuleContext) → each errorsIn1 (declarations ctx (treesAt input)) ≡ each errorsIn1 (declarations ctx (treesOf input))
   pub types1 : (ctx : ModuleContext) → each typesIn1 (declarations ctx (treesAt input)) ≡ each typesIn1 (declarations ctx (treesOf input))
-  pub errors2 : (ctx : ModuleContext) → each (itemErrors ctx) (treesAt input) ≡ each (itemErrors ctx) (treesOf input)
   pub types2 : (ctx : ModuleContext) → each (itemTypes ctx) (treesAt input) ≡ each (itemTypes ctx) (treesOf input)
-  pub errors : (builtIns : TypeMap) → moduleErrors builtIns (treesAt input) ≡ moduleErrors builtIns (treesOf input)
+  pub errors : moduleErrors (builtInsOf input) (treesAt input) ≡ placedErrorsOf input
   pub types : (builtIns : TypeMap) → neededTypes builtIns (treesAt input) ≡ neededTypes builtIns (treesOf input)
 
 -- A module with no fault in its layout means the same by the places of its items and by their own bytes
 pub same-module : (input : List ℕ) → layoutOf input ≡ Good → SameModule input
-unfolding itemsOf moduleErrors typesMet neededTypes
+unfolding itemsOf moduleErrors placedErrorsOf typesMet neededTypes
 same-module input e =
     let ps : List ℕ = itemPlaces input in
     let own : ℕ → Item = λ p. itemTree (itemBytes input p) in
-    let all : All (λ p. SameItem (slotAt p) (moduleItemAt input p) (itemTree (itemBytes input p))) ps =
-    all-map (λ p. FineRecord input 63 p (length input) anItem) (λ p. SameItem (slotAt p) (moduleItemAt input p) (own p)) ps (same-at input) (items-fine input e) in
+    let all : All (λ p. SameItem (λ n. p + n) (moduleItemAt input p) (itemTree (itemBytes input p))) ps =
+    all-map (λ p. FineRecord input 63 p (length input) anItem) (λ p. SameItem (λ n. p + n) (moduleItemAt input p) (own p)) ps (same-at input) (items-fine input e) in
     let m : map own ps ≡ treesOf input = sym (map-map itemTree (itemBytes input) ps) in
     let context : (ctx : ModuleContext) → declareAll ctx (treesAt input) ≡ declareAll ctx (treesOf input) =
     (λ ctx. context-all (moduleItemAt input) own ps all ctx ∙ ap (declareAll ctx) m) in
@@ -161,8 +161,6 @@ same-module input e =
     (λ ctx. errors1-all (moduleItemAt input) own ps all ctx ∙ ap (λ l. each errorsIn1 (declarations ctx l)) m) in
     let types1 : (ctx : ModuleContext) → each typesIn1 (declarations ctx (treesAt input)) ≡ each typesIn1 (declarations ctx (treesOf input)) =
     (λ ctx. types1-all (moduleItemAt input) own ps all ctx ∙ ap (λ l. each typesIn1 (declarations ctx l)) m) in
-    let errors2 : (ctx : ModuleContext) → each (itemErrors ctx) (treesAt input) ≡ each (itemErrors ctx) (treesOf input) =
-    (λ ctx. errors2-all (moduleItemAt input) own ps all ctx ∙ ap (each (itemErrors ctx)) m) in
     let types2 : (ctx : ModuleContext) → each (itemTypes ctx) (treesAt input) ≡ each (itemTypes ctx) (treesOf input) =
     (λ ctx. types2-all (moduleItemAt input) own ps all ctx ∙ ap (each (itemTypes ctx)) m) in
     record {
@@ -170,10 +168,9 @@ same-module input e =
       context = context;
       errors1 = errors1;
       types1 = types1;
-      errors2 = errors2;
       types2 = types2;
-      errors = λ builtIns. let start = emptyContext builtIns in
-          ap₂ _++_ (errors1 start) (ap (λ c. each (itemErrors c) (treesAt input)) (context start) ∙ errors2 (moduleContext builtIns (treesOf input)));
+      errors = let start = emptyContext (builtInsOf input) in
+          ap₂ _++_ (errors1 start) (ap (λ c. each (itemErrors c) (treesAt input)) (context start) ∙ errors2-all (moduleItemAt input) own ps all (contextOf input));
       types = λ builtIns. let start = emptyContext builtIns in
           ap (λ l. fixedTypes ++ each parts l)
           (ap₂ _++_ (types1 start) (ap (λ c. each (itemTypes c) (treesAt input)) (context start) ∙ types2 (moduleContext builtIns (treesOf input))));

@@ -9,14 +9,14 @@ use lib.Dec.{eqb}
 use borrow.Author.Tests.{eqb-true, eqb-false}
 use Rattle.shape.specs.Shape.{anItem, pick, dueIn}
 use Rattle.shape.specs.declared.Holds.the-variants.{Items}
-use Rattle.node.specs.Names.{stands, chain, namesEnd}
-use Rattle.node.specs.Tree.{Item}
-use Rattle.node.specs.Layout.{stopAt, layoutOf}
-use Rattle.node.specs.Record.{toItem, itemTreeAt}
+use Rattle.names.specs.Names.{stands, chain, namesEnd}
+use Rattle.trees.specs.Tree.{Item}
+use Rattle.layout.specs.Layout.{stopAt, layoutOf}
+use Rattle.trees.specs.Record.{toItem, itemTreeAt}
 use Rattle.node.specs.Fine.{FineRecord, FineList}
-use Rattle.node.specs.declared.layout.Layout.the-variants.{Good}
+use Rattle.layout.specs.declared.Layout.the-variants.{Good}
 use Rattle.node.proofs.Open.{split-may, opened, fine-stands, items-list, item-chain}
-use Rattle.node.proofs.Decode.{fine-own, records-cons, records-end}
+use Rattle.trees.proofs.Decode.{fine-own, records-cons, records-end}
 use Rattle.walk.proofs.Sets.{both}
 use Rattle.slot_places.specs.Absolute.{toItems, itemsAt, treesAt}
 use Rattle.slot_places.proofs.Items.{stands-low}

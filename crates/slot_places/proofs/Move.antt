@@ -1,12 +1,16 @@
--- Trees that differ only in the places of their records mean the same: the meaning puts a place into a slot and looks at it nowhere else.
+-- Trees that differ only in the places of their records mean the same: the meaning puts a place into a slot or the error of a bad literal, and
+-- looks at it nowhere else.
 -- Assumes nothing.
 use Prim.Native.Nat.{ℕ, _+_}
-use mathlib.Core.Path.{_≡_, refl, sym, ap, ap₂}
-use mathlib.Core.List.{_++_, map, map-append, map-id}
+use mathlib.Core.Path.{_≡_, refl, sym, _∙_, ap, ap₂}
+use mathlib.Core.Bool.{Bool, true, false, cond}
+use mathlib.Core.List.{List, [], _∷_, _++_, map, map-append, map-id}
+use lib.Dec.{eqb}
 use Rattle.types.specs.Ty.{Ty, end, node, pointer, array, struct, field, is, secondOf, u16Kind}
-use Rattle.node.specs.Tree.{Location, location, TypeNode, nameType, voidType, pointerType, arrayType, structType, noFields, fieldThen}
-use Rattle.node.specs.Tree.{Expression, identifier, integer, boolean, stringLiteral, call, index, cast, pointerTake, pointerDereference, fieldAccess, bitwiseNot, booleanNot, booleanAnd, arithmeticBinOp, comparisonBinOp, sizeof, noExpressions, expressionThen}
-use Rattle.meaning.specs.TypeError.{unless, invalidIndex}
+use Rattle.trees.specs.Tree.{Location, location, TypeNode, nameType, voidType, pointerType, arrayType, structType, noFields, fieldThen}
+use Rattle.trees.specs.Tree.{Expression, identifier, integer, boolean, stringLiteral, call, index, cast, pointerTake, pointerDereference, fieldAccess, bitwiseNot, booleanNot, booleanAnd, arithmeticBinOp, comparisonBinOp, sizeof, noExpressions, expressionThen}
+use Rattle.fallible.specs.Operands.{literalKind}
+use Rattle.meaning.specs.TypeError.{TypeError, unless, invalidIndex, movePlace}
 use Rattle.meaning.specs.Context.{ModuleContext, Context}
 use Rattle.meaning.specs.Convert.{Slot, convertNodeType, conversionErrors, conversionSlots}
 use Rattle.meaning.specs.Expression.{locationOf, expressionType, argumentErrors, expressionErrors, expressionSlots}
@@ -51,6 +55,11 @@ moveExpression g (sizeof l t) = sizeof (moved g l) (moveType g t)
 moveExpression g noExpressions = noExpressions
 moveExpression g (expressionThen e rest) = expressionThen (moveExpression g e) (moveExpression g rest)
 
+-- The errors of a choice
+pub either-errors : (f : TypeError → TypeError) (x : Bool) (a b : List TypeError) → map f (cond x a b) ≡ cond x (map f a) (map f b)
+either-errors f true a b = refl
+either-errors f false a b = refl
+
 -- Types
 module _ (g : ℕ → ℕ) (ctx : ModuleContext) where
   type-moved : (t : TypeNode) → convertNodeType ctx (moveType g t) ≡ convertNodeType ctx t
@@ -72,6 +81,17 @@ module _ (g : ℕ → ℕ) (ctx : ModuleContext) where
   type-errors (structType l fields) = type-errors fields
   type-errors noFields = refl
   type-errors (fieldThen name t rest) = ap₂ _++_ (type-errors t) (type-errors rest)
+
+  -- which have no places
+  pub conversion-places : (t : TypeNode) → map (movePlace g) (conversionErrors ctx t) ≡ conversionErrors ctx t
+  unfolding conversionErrors
+  conversion-places (nameType l name) = simp either-errors
+  conversion-places (voidType l) = refl
+  conversion-places (pointerType l t) = conversion-places t
+  conversion-places (arrayType l size t) = conversion-places t
+  conversion-places (structType l fields) = conversion-places fields
+  conversion-places noFields = refl
+  conversion-places (fieldThen name t rest) = simp (map-append, conversion-places t, conversion-places rest)
 
   type-slots : (t : TypeNode) → conversionSlots ctx (moveType g t) ≡ map (moveSlot g) (conversionSlots ctx t)
   unfolding conversionSlots convertNodeType moveType
@@ -105,11 +125,12 @@ expression-location g (sizeof l t) = refl
 expression-location g noExpressions = refl
 expression-location g (expressionThen e rest) = refl
 
--- Errors at a location say nothing of its place
-argument-errors : (g : ℕ → ℕ) (l : Location) (i : ℕ) (parameters arguments : Ty) → argumentErrors (moved g l) i parameters arguments ≡ argumentErrors l i parameters arguments
+-- Errors other than a bad literal's say nothing of a place
+argument-errors : (g : ℕ → ℕ) (l : Location) (i : ℕ) (parameters arguments : Ty)
+    → argumentErrors (moved g l) i parameters arguments ≡ map (movePlace g) (argumentErrors l i parameters arguments)
 unfolding argumentErrors
 argument-errors g l i end arguments = refl
-argument-errors g l i (node k t rest s n) arguments = rw (argument-errors g l (i + 1) rest (secondOf arguments))
+argument-errors g l i (node k t rest s n) arguments = rw (argument-errors g l (i + 1) rest (secondOf arguments)) (simp (either-errors, map-append))
 
 module _ (g : ℕ → ℕ) (ctx : Context) where
   expression-type : (e : Expression) → expressionType ctx (moveExpression g e) ≡ expressionType ctx e
@@ -133,10 +154,10 @@ module _ (g : ℕ → ℕ) (ctx : Context) where
   expression-type noExpressions = refl
   expression-type (expressionThen e rest) = rw (expression-type e, expression-type rest)
 
-  expression-errors : (e : Expression) → expressionErrors ctx (moveExpression g e) ≡ expressionErrors ctx e
+  expression-errors : (e : Expression) → expressionErrors ctx (moveExpression g e) ≡ map (movePlace g) (expressionErrors ctx e)
   unfolding expressionErrors moveExpression
-  expression-errors (identifier l name) = refl
-  expression-errors (integer l base digits) = refl
+  expression-errors (identifier l name) = simp either-errors
+  expression-errors (integer l base digits) = simp either-errors
   expression-errors (boolean l) = refl
   expression-errors (stringLiteral l) = refl
   expression-errors (call l target arguments) =
@@ -147,23 +168,30 @@ module _ (g : ℕ → ℕ) (ctx : Context) where
         expression-type arguments,
         argument-errors g l 1 (secondOf (expressionType ctx target)) (expressionType ctx arguments),
       )
+      (simp (either-errors, map-append))
   expression-errors (index l target i) =
       rw (expression-errors target, expression-errors i, expression-type i)
-      (ap (λ (x : Location). expressionErrors ctx target ++ expressionErrors ctx i ++ unless (is u16Kind (expressionType ctx i)) (invalidIndex x (expressionType ctx i)))
-      (expression-location g i))
+      (ap (λ (x : Location). map (movePlace g) (expressionErrors ctx target) ++ map (movePlace g) (expressionErrors ctx i)
+      ++ unless (is u16Kind (expressionType ctx i)) (invalidIndex x (expressionType ctx i)))
+      (expression-location g i)
+      ∙ simp (either-errors, map-append))
   expression-errors (cast l e t) =
       rw (expression-errors e, expression-type e, type-errors g (ctx .inModule) t, type-moved g (ctx .inModule) t)
+      (simp (either-errors, map-append, conversion-places g (ctx .inModule) t))
   expression-errors (pointerTake l e) = expression-errors e
-  expression-errors (pointerDereference l e) = rw (expression-errors e, expression-type e)
-  expression-errors (fieldAccess l name e) = rw (expression-errors e, expression-type e)
-  expression-errors (bitwiseNot l e) = rw (expression-errors e, expression-type e)
-  expression-errors (booleanNot l e) = rw (expression-errors e, expression-type e)
-  expression-errors (booleanAnd l a b) = rw (expression-errors a, expression-errors b, expression-type a, expression-type b)
-  expression-errors (arithmeticBinOp l operator a b) = rw (expression-errors a, expression-errors b, expression-type a, expression-type b)
-  expression-errors (comparisonBinOp l operator a b) = rw (expression-errors a, expression-errors b, expression-type a, expression-type b)
-  expression-errors (sizeof l t) = type-errors g (ctx .inModule) t
+  expression-errors (pointerDereference l e) = rw (expression-errors e, expression-type e) (simp (either-errors, map-append))
+  expression-errors (fieldAccess l name e) = rw (expression-errors e, expression-type e) (simp (either-errors, map-append))
+  expression-errors (bitwiseNot l e) = rw (expression-errors e, expression-type e) (simp (either-errors, map-append))
+  expression-errors (booleanNot l e) = rw (expression-errors e, expression-type e) (simp (either-errors, map-append))
+  expression-errors (booleanAnd l a b) =
+      rw (expression-errors a, expression-errors b, expression-type a, expression-type b) (simp (either-errors, map-append))
+  expression-errors (arithmeticBinOp l operator a b) =
+      rw (expression-errors a, expression-errors b, expression-type a, expression-type b) (simp (either-errors, map-append))
+  expression-errors (comparisonBinOp l operator a b) =
+      rw (expression-errors a, expression-errors b, expression-type a, expression-type b) (simp (either-errors, map-append))
+  expression-errors (sizeof l t) = type-errors g (ctx .inModule) t ∙ sym (conversion-places g (ctx .inModule) t)
   expression-errors noExpressions = refl
-  expression-errors (expressionThen e rest) = rw (expression-errors e, expression-errors rest)
+  expression-errors (expressionThen e rest) = rw (expression-errors e, expression-errors rest, map-append)
 
   expression-slots : (e : Expression) → expressionSlots ctx (moveExpression g e) ≡ map (moveSlot g) (expressionSlots ctx e)
   unfolding expressionSlots expressionType moveExpression
@@ -186,21 +214,19 @@ module _ (g : ℕ → ℕ) (ctx : Context) where
   expression-slots noExpressions = refl
   expression-slots (expressionThen e rest) = rw (expression-slots e, expression-slots rest, map-append)
 
--- What a change of expressions and types keeps: all but the places of the slots
-pub record Keeps (f : Slot → Slot) (e : Expression → Expression) (t : TypeNode → TypeNode) : Type 0 where
-  pub slotTypes : (s : Slot) → f s .type ≡ s .type
+-- What a change of expressions and types keeps: all but the places, which `g` changes
+pub record Keeps (g : ℕ → ℕ) (e : Expression → Expression) (t : TypeNode → TypeNode) : Type 0 where
   pub types : (ctx : ModuleContext) (x : TypeNode) → convertNodeType ctx (t x) ≡ convertNodeType ctx x
   pub typeErrors : (ctx : ModuleContext) (x : TypeNode) → conversionErrors ctx (t x) ≡ conversionErrors ctx x
-  pub typeSlots : (ctx : ModuleContext) (x : TypeNode) → conversionSlots ctx (t x) ≡ map f (conversionSlots ctx x)
+  pub typeSlots : (ctx : ModuleContext) (x : TypeNode) → conversionSlots ctx (t x) ≡ map (moveSlot g) (conversionSlots ctx x)
   pub locations : (x : Expression) → placeless (locationOf (e x)) ≡ placeless (locationOf x)
   pub carried : (ctx : Context) (x : Expression) → expressionType ctx (e x) ≡ expressionType ctx x
-  pub errors : (ctx : Context) (x : Expression) → expressionErrors ctx (e x) ≡ expressionErrors ctx x
-  pub slots : (ctx : Context) (x : Expression) → expressionSlots ctx (e x) ≡ map f (expressionSlots ctx x)
+  pub errors : (ctx : Context) (x : Expression) → expressionErrors ctx (e x) ≡ map (movePlace g) (expressionErrors ctx x)
+  pub slots : (ctx : Context) (x : Expression) → expressionSlots ctx (e x) ≡ map (moveSlot g) (expressionSlots ctx x)
 
-pub move-keeps : (g : ℕ → ℕ) → Keeps (moveSlot g) (moveExpression g) (moveType g)
+pub move-keeps : (g : ℕ → ℕ) → Keeps g (moveExpression g) (moveType g)
 move-keeps g =
     record {
-      slotTypes = λ s. refl;
       types = type-moved g;
       typeErrors = type-errors g;
       typeSlots = type-slots g;
@@ -210,15 +236,36 @@ move-keeps g =
       slots = expression-slots g;
     }
 
-pub none-keeps : Keeps (λ s. s) (λ e. e) (λ t. t)
+-- Places that stay
+same-place : (e : TypeError) → movePlace (λ p. p) e ≡ e
+same-place e =
+    λ t. record {
+      kind = e .kind;
+      file = e .file;
+      line = e .line;
+      column = e .column;
+      first = e .first;
+      second = e .second;
+      third = e .third;
+      place = go (eqb (e .kind) literalKind) t;
+    }
+  where
+    go : (x : Bool) → cond x (e .place) (e .place) ≡ e .place
+    go true = refl
+    go false = refl
+
+pub same-places : (es : List TypeError) → map (movePlace (λ p. p)) es ≡ es
+same-places [] = refl
+same-places (e ∷ es) = λ t. same-place e t ∷ same-places es t
+
+pub none-keeps : Keeps (λ p. p) (λ e. e) (λ t. t)
 none-keeps =
     record {
-      slotTypes = λ s. refl;
       types = λ ctx x. refl;
       typeErrors = λ ctx x. refl;
       typeSlots = λ ctx x. sym (map-id (conversionSlots ctx x));
       locations = λ x. refl;
       carried = λ ctx x. refl;
-      errors = λ ctx x. refl;
+      errors = λ ctx x. sym (same-places (expressionErrors ctx x));
       slots = λ ctx x. sym (map-id (expressionSlots ctx x));
     }

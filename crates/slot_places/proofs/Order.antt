@@ -12,16 +12,16 @@ use Rattle.shape.specs.Shape.{pick, shapeOf, dueIn, mayStand, stateAfter, aType
 use Rattle.shape.specs.declared.Holds.{Holds}
 use Rattle.shape.specs.declared.Holds.the-variants.{Nothing, FreeBytes, OneModule, NamesThenItems, Items, Names, OneType, Fields, OneExpression, TwoExpressions, CallParts, Expressions, ExpressionThenType, CompoundFields, Statements, Declaration, InitialValue, ExpressionThenCompound, OneCompound, OptionalExpression, OneStatement, ExpressionThenStatement, IfParts, ThenPart, OptionalStatement, FunctionParts, Parameters}
 use Rattle.shape.proofs.ShapeLaws.{kind-range, type-kind, expression-kind, compound-kind, statement-kind, item-kind}
-use Rattle.node.specs.Names.{itemBytes}
-use Rattle.node.specs.Layout.{kindAt, classAt, stopAt}
+use Rattle.names.specs.Names.{itemBytes}
+use Rattle.layout.specs.Layout.{kindAt, classAt, stopAt}
 use Rattle.node.specs.Fine.{FineRecord}
-use Rattle.node.specs.Tree.{Location, Expression, Statement}
-use Rattle.node.specs.Record.{RecordHead, Records, noRecords, recordThen, next, hasSlot, holdsFreeBytes, recordHeadAt, bytesAt, recordsAt, slotPlaces, itemSlotPlaces}
-use Rattle.node.specs.Record.{typeOf, toType, expressionOf, toExpressions, toExpression, secondExpression, expressionList, laterExpressions, compoundOf, toCompound, toCompoundFields, toInitialValue, toOptional}
-use Rattle.node.specs.Record.{statementOf, toStatements, statementList, firstStatement, laterStatements, ifOf, toParameters, toBody, itemOf, toItem, itemTree}
+use Rattle.trees.specs.Tree.{Location, Expression, Statement}
+use Rattle.trees.specs.Record.{RecordHead, Records, noRecords, recordThen, next, hasSlot, holdsFreeBytes, recordHeadAt, bytesAt, recordsAt, slotPlaces, itemSlotPlaces}
+use Rattle.trees.specs.Record.{typeOf, toType, expressionOf, toExpressions, toExpression, secondExpression, expressionList, laterExpressions, compoundOf, toCompound, toCompoundFields, toInitialValue, toOptional}
+use Rattle.trees.specs.Record.{statementOf, toStatements, statementList, firstStatement, laterStatements, ifOf, toParameters, toBody, itemOf, toItem, itemTree}
 use Rattle.node.proofs.Open.{either-class}
-use Rattle.node.proofs.Decode.{fine-own, records-end}
-use Rattle.node.proofs.Statements.{next-records}
+use Rattle.trees.proofs.Decode.{fine-own, records-end}
+use Rattle.trees.proofs.Statements.{next-records}
 use Rattle.meaning.specs.Context.{ModuleContext, Context, context, blank, each}
 use Rattle.meaning.specs.Convert.{Slot, convertNodeType, conversionSlots}
 use Rattle.meaning.specs.Expression.{expressionSlots}
@@ -246,7 +246,7 @@ module _ (h : RecordHead) (s : List ℕ) (c : Records) where
       (h .kind) (r .0) (omega (arith, r .1))
 
 -- A class that must or may stand
-must-class : (c x : ℕ) → eqb x c || eqb x c ≡ true → x ≡ c
+pub must-class : (c x : ℕ) → eqb x c || eqb x c ≡ true → x ≡ c
 must-class c x e = go (eqb x c) refl e
   where
     go : (b : Bool) → eqb x c ≡ b → b || b ≡ true → x ≡ c

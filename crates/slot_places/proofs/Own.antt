@@ -10,14 +10,14 @@ use native.Mathlib.Omega.{arith}
 use borrow.Author.Tests.{ltb-true, le-leb}
 use Rattle.shape.specs.Shape.{dueIn, stateAfter, anItem}
 use Rattle.shape.specs.declared.Holds.{Holds}
-use Rattle.node.specs.Bytes.{byteAt, halfAt, wordAt}
-use Rattle.node.specs.Names.{stands}
-use Rattle.node.specs.Layout.{kindAt, classAt, startAt, stopAt}
+use Rattle.record_bytes.specs.Bytes.{byteAt, halfAt, wordAt}
+use Rattle.names.specs.Names.{stands}
+use Rattle.layout.specs.Layout.{kindAt, classAt, startAt, stopAt}
 use Rattle.node.specs.Fine.{FineRecord}
-use Rattle.node.specs.Tree.{location}
-use Rattle.node.specs.Record.{Records, noRecords, recordThen, goOn, recordHeadAt, bytesAt, fieldCount, holdsFreeBytes, recordWith, recordsWith, recordsAt}
+use Rattle.trees.specs.Tree.{location}
+use Rattle.trees.specs.Record.{Records, noRecords, recordThen, goOn, recordHeadAt, bytesAt, fieldCount, holdsFreeBytes, recordWith, recordsWith, recordsAt}
 use Rattle.node.proofs.Open.{opened}
-use Rattle.node.proofs.Decode.{enough, records-end}
+use Rattle.trees.proofs.Decode.{enough, records-end}
 use Rattle.slot_places.proofs.Decode.{moveHead, moveRecords}
 use Rattle.slot_places.proofs.Induction.{Standing, Children, fine-item}
 

@@ -8,21 +8,20 @@ use lib.ListN.{length, getD}
 use lib.Dec.{eqb, leb, ltb}
 use native.Mathlib.Omega.{arith}
 use borrow.Author.Tests.{leb-true, leb-false, ltb-false}
-use Rattle.shape.specs.Shape.{pick, shapes, lookUp, shapeOf, dueIn, stateAfter, anItem}
+use Rattle.shape.specs.Shape.{pick, noField, unlisted, shapes, lookUp, shapeOf, dueIn, stateAfter, anItem}
 use Rattle.shape.specs.declared.Shape.{Shape}
 use Rattle.shape.specs.declared.Holds.{Holds}
-use Rattle.shape.specs.declared.Holds.the-variants.{Items}
+use Rattle.shape.specs.declared.Holds.the-variants.{Nothing, Items}
 use Rattle.shape.proofs.ShapeLaws.{and-both}
-use Rattle.node.specs.Bytes.{wordAt}
-use Rattle.node.specs.Names.{stands, chain, itemPlaces, itemBytes, namesEnd}
-use Rattle.node.specs.Layout.{kindAt, classAt, startAt, stopAt, layoutOf}
+use Rattle.record_bytes.specs.Bytes.{wordAt}
+use Rattle.names.specs.Names.{stands, chain, itemPlaces, itemBytes, namesEnd}
+use Rattle.layout.specs.Layout.{kindAt, classAt, startAt, stopAt, layoutOf}
 use Rattle.node.specs.Fine.{FineRecord, FineList}
-use Rattle.node.specs.Record.{Records, noRecords, recordThen, isSlot, hasSlot, fieldCount, holdsFreeBytes, recordHeadAt, bytesAt, recordsAt, slotPlaces, itemSlotPlaces}
-use Rattle.node.specs.declared.layout.Layout.the-variants.{Good}
+use Rattle.trees.specs.Record.{Records, noRecords, recordThen, isSlot, hasSlot, fieldCount, holdsFreeBytes, recordHeadAt, bytesAt, recordsAt, slotPlaces, itemSlotPlaces}
+use Rattle.layout.specs.declared.Layout.the-variants.{Good}
 use Rattle.node.proofs.Open.{opened, split-may, items-list, item-chain}
-use Rattle.meaning.specs.Context.{each}
+use Rattle.meaning.specs.Context.{each, All}
 use Rattle.meaning.specs.Promise.{inSlot, itemPlace, itemAt, itemCount}
-use Rattle.slot_places.specs.Absolute.{All}
 use Rattle.slot_places.specs.Spaced.{Spaced, Beside}
 use Rattle.slot_places.proofs.Decode.{moveRecords}
 use Rattle.slot_places.proofs.Induction.{Standing, Children, fine-item}
@@ -52,26 +51,30 @@ spaced-all a b [] h = tt
 spaced-all a b (q ∷ l) h =
     ((h .0, spaced-ends (q + 4) b l (h .1)), all-map (λ x. (q + 4 ≤ x) × (x + 4 ≤ b)) (λ x. (a ≤ x) × (x + 4 ≤ b)) l (λ x p. (omega (arith, h .0, p .0), p .1)) (spaced-all (q + 4) b l (h .1)))
 
--- A record whose first field is a slot has a field
-allSlotted : List (ℕ × Shape) → Bool
-allSlotted [] = true
-allSlotted (r ∷ rs) = (not (isSlot (r .1 .first)) || leb 1 (r .1 .fields)) && allSlotted rs
+-- A test that every shape of a list passes, and that of no record
+unfoldable pub allShapes : (test : Shape → Bool) → List (ℕ × Shape) → Bool
+allShapes test [] = test (noField unlisted Nothing)
+allShapes test (r ∷ rs) = test (r .1) && allShapes test rs
 
-slotted-row : (rows : List (ℕ × Shape)) (k : ℕ) → allSlotted rows ≡ true → not (isSlot (lookUp rows k .first)) || leb 1 (lookUp rows k .fields) ≡ true
-unfolding allSlotted
-slotted-row [] k e = refl
-slotted-row (r ∷ rs) k e =
-    let p = and-both (not (isSlot (r .1 .first)) || leb 1 (r .1 .fields)) (allSlotted rs) e in
-    go (eqb k (r .0)) (p .0) (slotted-row rs k (p .1))
+every-shape : (test : Shape → Bool) (rows : List (ℕ × Shape)) (k : ℕ) → allShapes test rows ≡ true → test (lookUp rows k) ≡ true
+unfolding allShapes
+every-shape test [] k e = e
+every-shape test (r ∷ rs) k e =
+    let p = and-both (test (r .1)) (allShapes test rs) e in
+    go (eqb k (r .0)) (p .0) (every-shape test rs k (p .1))
   where
-    go : (b : Bool) → not (isSlot (r .1 .first)) || leb 1 (r .1 .fields) ≡ true → not (isSlot (lookUp rs k .first)) || leb 1 (lookUp rs k .fields) ≡ true
-        → not (isSlot (pick b (r .1) (lookUp rs k) .first)) || leb 1 (pick b (r .1) (lookUp rs k) .fields) ≡ true
+    go : (b : Bool) → test (r .1) ≡ true → test (lookUp rs k) ≡ true → test (pick b (r .1) (lookUp rs k)) ≡ true
     go true p q = p
     go false p q = q
 
+pub shape-passes : (test : Shape → Bool) → allShapes test shapes ≡ true → (k : ℕ) → test (shapeOf k) ≡ true
+unfolding shapeOf
+shape-passes test e k = every-shape test shapes k e
+
+-- A record whose first field is a slot has a field
 slot-fields : (k : ℕ) → hasSlot k ≡ true → 1 ≤ fieldCount k
-unfolding shapeOf allSlotted
-slot-fields k e = leb-true 1 (fieldCount k) (rw e at (slotted-row shapes k refl))
+unfolding allShapes
+slot-fields k e = leb-true 1 (fieldCount k) (rw e at (shape-passes (λ r. not (isSlot (r .first)) || leb 1 (r .fields)) refl k))
 
 -- The slots of the records from a place to another
 module _ (s : List ℕ) where

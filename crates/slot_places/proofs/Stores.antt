@@ -7,18 +7,18 @@ use mathlib.Core.Logic.{inl, inr}
 use lib.ListN.{length}
 use native.Mathlib.Omega.{arith}
 use Rattle.shape.specs.Shape.{anItem}
-use Rattle.node.specs.Names.{namesEnd, itemPlaces, itemBytes}
-use Rattle.node.specs.Layout.{layoutOf}
+use Rattle.names.specs.Names.{namesEnd, itemPlaces, itemBytes}
+use Rattle.layout.specs.Layout.{layoutOf}
 use Rattle.node.specs.Fine.{FineRecord}
-use Rattle.node.specs.Record.{itemTree, itemSlotPlaces}
-use Rattle.node.specs.declared.layout.Layout.the-variants.{Good}
-use Rattle.meaning.specs.Context.{ModuleContext, each}
+use Rattle.trees.specs.Record.{itemTree, itemSlotPlaces}
+use Rattle.layout.specs.declared.Layout.the-variants.{Good}
+use Rattle.meaning.specs.Context.{ModuleContext, each, All}
 use Rattle.meaning.specs.Convert.{Slot}
 use Rattle.meaning.specs.Module.{itemSlots}
 use Rattle.meaning.specs.Promise.{inSlot, itemPlace, itemAt, itemCount}
 use Rattle.walk.specs.Effect.{Store, store, storeFrom}
 use Rattle.walk.proofs.Slots.{All as AllStores, Off, Apart, Outside, Inside}
-use Rattle.slot_places.specs.Absolute.{moduleItemAt, slotAt, All}
+use Rattle.slot_places.specs.Absolute.{moduleItemAt, slotAt}
 use Rattle.slot_places.specs.Spaced.{Spaced, Beside}
 use Rattle.slot_places.specs.Stores.{itemStores, moduleStores}
 use Rattle.slot_places.proofs.Items.{items-fine, same-at}

@@ -1,10 +1,10 @@
 -- The tree of an item as a walk over the module's bytes meets it: its records know their places in the file.
 use Prim.Native.Nat.{ℕ, _+_}
 use mathlib.Core.List.{List, [], _∷_, map}
-use Rattle.node.specs.Layout.{stopAt}
-use Rattle.node.specs.Names.{itemPlaces}
-use Rattle.node.specs.Record.{Records, noRecords, recordThen, recordsAt, itemOf, toItem}
-use Rattle.node.specs.Tree.{Item}
+use Rattle.layout.specs.Layout.{stopAt}
+use Rattle.names.specs.Names.{itemPlaces}
+use Rattle.trees.specs.Record.{Records, noRecords, recordThen, recordsAt, itemOf, toItem}
+use Rattle.trees.specs.Tree.{Item}
 use Rattle.meaning.specs.Convert.{Slot}
 
 -- The item at a place; items stand at depth 2 of 64
@@ -26,8 +26,3 @@ itemsAt s d from end = toItems (recordsAt s d from end)
 -- A slot of an item that stands at a place, by its place in the file
 abbrev pub slotAt : (place : ℕ) → Slot → Slot
 slotAt place s = record { at = place + s .at; type = s .type }
-
--- All of a list
-unfoldable pub All : {A : Type 0} → (A → Type 0) → List A → Type 0
-All P [] = Unit {0}
-All P (x ∷ l) = P x × All P l

@@ -1,8 +1,8 @@
 -- The stores of pass 2: every slot of every item, by its place in the file.
 use Prim.Native.Nat.{ℕ}
 use mathlib.Core.List.{List, map}
-use Rattle.node.specs.Names.{itemPlaces, itemBytes}
-use Rattle.node.specs.Record.{itemTree}
+use Rattle.names.specs.Names.{itemPlaces, itemBytes}
+use Rattle.trees.specs.Record.{itemTree}
 use Rattle.meaning.specs.Context.{ModuleContext, each}
 use Rattle.meaning.specs.Module.{itemSlots}
 use Rattle.walk.specs.Effect.{Store, storeFrom}

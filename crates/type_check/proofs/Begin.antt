@@ -3,8 +3,8 @@ use Prim.Native.Nat.{ℕ, zero, suc}
 use mathlib.Core.Path.{_≡_, refl}
 use mathlib.Core.List.{List}
 use lib.ListN.{getD, replicate}
-use Rattle.node.specs.Names.{builtIns, repeatedName}
-use Rattle.node.specs.declared.names.Repeated.the-variants.{Nowhere}
+use Rattle.names.specs.Names.{builtIns, repeatedName}
+use Rattle.names.specs.declared.Repeated.the-variants.{Nowhere}
 use Rattle.meaning.specs.Context.{context, blank}
 use Rattle.meaning.specs.Module.{emptyContext}
 use Rattle.meaning.specs.Promise.{builtInsOf}

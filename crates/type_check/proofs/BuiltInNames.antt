@@ -8,10 +8,10 @@ use lib.Dec.{eqb}
 use lib.ListN.{getD}
 use borrow.Author.Tests.{eqb-true, eq-eqb}
 use Rattle.types.specs.Ty.{u16, i16, bool, string}
-use Rattle.node.specs.Names.{namesOf, nameCount, sameBytes, numberOf, builtIns, repeatedName}
-use Rattle.node.specs.declared.names.Repeated.the-variants.{Nowhere}
-use Rattle.node.proofs.NameLaws.{same-refl, same-true}
-use Rattle.node.proofs.NumberLaws.{named, number-of-name}
+use Rattle.names.specs.Names.{namesOf, nameCount, sameBytes, numberOf, builtIns, repeatedName}
+use Rattle.names.specs.declared.Repeated.the-variants.{Nowhere}
+use Rattle.names.proofs.NameLaws.{same-refl, same-true}
+use Rattle.names.proofs.NumberLaws.{named, number-of-name}
 use Rattle.meaning.specs.Promise.{builtInTypes}
 use Rattle.convert.specs.Convert.{primitiveOf}
 

@@ -13,15 +13,16 @@ use Rattle.types.specs.Table.{rowWidth, fixedLength, Table}
 use Rattle.types.specs.Post.{FixedStored}
 use Rattle.fallible.specs.Errors.{errorWidth, errorList, room}
 use Rattle.shape.specs.declared.Holds.the-variants.{Items}
-use Rattle.node.specs.Names.{nameCount, namesEnd, builtIns}
-use Rattle.node.specs.Layout.{maxBytes}
-use Rattle.node.specs.Tree.{Item}
+use Rattle.names.specs.Names.{nameCount, namesEnd, builtIns}
+use Rattle.layout.specs.Layout.{maxBytes}
+use Rattle.trees.specs.Tree.{Item}
 use Rattle.node.specs.Fine.{FineList}
-use Rattle.node.specs.declared.names.BuiltIns.{BuiltIns}
+use Rattle.names.specs.declared.BuiltIns.{BuiltIns}
 use Rattle.node.proofs.Open.{few-bytes, items-list}
 use Rattle.meaning.specs.Context.{each}
 use Rattle.meaning.specs.Module.{neededTypes}
-use Rattle.meaning.specs.Promise.{workWidth, contextOf, errorsOf, typesOf, countsOf}
+use Rattle.meaning.proofs.Counted.{placed-count}
+use Rattle.meaning.specs.Promise.{workWidth, contextOf, placedErrorsOf, typesOf, countsOf}
 use Rattle.walk.specs.Effect.{Effect, nothing, _then_, needed}
 use Rattle.walk.specs.declared.State.{State}
 use Rattle.row_index.specs.Index.{Indexed}
@@ -90,21 +91,23 @@ module _ {input output rows rows₇ index errors work output′ rows′ index′
       ap (λ (n : ℕ). ltb n (rowWidth * countsOf input .rows)) (sym same-rows) ∙ end-full (moduleEffect input) table stands (omega (arith, few))
 
   module _ (fits : r .full ≡ false) where
-    told : Told rows′ (r .rows) (errorsOf input) (errorList errors 0) (errorList errors′ (r .errors))
+    told : Told rows′ (r .rows) (placedErrorsOf input) (errorList errors 0) (errorList errors′ (r .errors))
     told = stands .fits fits .told
 
     crowded : ltb (length errors) (errorWidth * countsOf input .errors) ≡ ltb (room errors) (r .errors)
-    crowded = end-crowded told
+    crowded = ap (λ (n : ℕ). ltb (length errors) (errorWidth * n)) (sym (placed-count input)) ∙ end-crowded told
 
     module _ (listed : ltb (room errors) (r .errors) ≡ false) where
-      errors-fit : length (errorsOf input) ≤ room errors
-      errors-fit = let l = ltb-false (length errors) (errorWidth * length (errorsOf input)) (crowded ∙ listed) in omega arith
+      errors-fit : length (placedErrorsOf input) ≤ room errors
+      errors-fit =
+          let l = ltb-false (length errors) (errorWidth * countsOf input .errors) (crowded ∙ listed) in
+          omega (arith, placed-count input)
 
       counts : record { rows = r .rows; errors = r .errors } ≡ countsOf input
       unfolding needed typesOf neededTypes
       counts =
           let a = end-rows (moduleEffect input) table stands fits in
-          let b = end-errors told errors-fit in
+          let b = end-errors told errors-fit ∙ placed-count input in
           λ i. record { rows = a i; errors = b i }
 
       slots : Filled input rows′ (r .rows) (contextOf input) output output′

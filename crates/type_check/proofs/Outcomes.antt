@@ -10,7 +10,7 @@ use lib.Seq.{drop-append-seam}
 use borrow.Author.Tests.{lt-ltb, le-ltb}
 use Rattle.fallible.specs.Outcome.{Outcome, refused, accepted, firstRefusing, outcomeAfter}
 use Rattle.fallible.specs.Errors.{errorWidth, room}
-use Rattle.node.specs.Names.{namesOf, nameCount}
+use Rattle.names.specs.Names.{namesOf, nameCount}
 use Rattle.meaning.specs.Promise.{workWidth, Counts, countsOf, Buffers, lengthsOf, refuseIf, cleared, wiped, Accepted}
 use Rattle.meaning.proofs.Cleared.{cleared-all, cleared-long, cleared-same}
 use Rattle.walk.specs.declared.State.{State}

@@ -11,16 +11,17 @@ use lib.Seq.{length-take-le, length-front}
 use Rattle.types.specs.Table.{rowWidth}
 use Rattle.fallible.specs.Errors.{errorWidth}
 use Rattle.fallible.specs.Outcome.{Outcome, refused, accepted, orNext, firstRefusing, outcomeAfter}
-use Rattle.node.specs.Names.{namesOf, nameCount, repeatedName, nameRefusal, nameTest}
-use Rattle.node.specs.Layout.{layoutOf, layoutRefusal, layoutTests}
-use Rattle.node.specs.declared.layout.Layout.{Layout}
-use Rattle.node.specs.declared.layout.Layout.the-variants.{Good, TooLong, Fault, TooDeep}
-use Rattle.node.specs.declared.names.Repeated.{Repeated}
-use Rattle.node.specs.declared.names.Repeated.the-variants.{Nowhere, At}
+use Rattle.names.specs.Names.{namesOf, nameCount, repeatedName, nameRefusal, nameTest}
+use Rattle.layout.specs.Layout.{layoutOf, layoutRefusal, layoutTests}
+use Rattle.layout.specs.declared.Layout.{Layout}
+use Rattle.layout.specs.declared.Layout.the-variants.{Good, TooLong, Fault, TooDeep}
+use Rattle.names.specs.declared.Repeated.{Repeated}
+use Rattle.names.specs.declared.Repeated.the-variants.{Nowhere, At}
 use Rattle.meaning.specs.Promise.{workWidth, Counts, countsOf, Buffers, Lengths, lengthsOf, refuseIf, answerOf, cleared, Accepted, Checked}
-use Rattle.type_check.specs.declared.Refusal.{Refusal}
-use Rattle.type_check.specs.declared.Refusal.the-variants.{Never, Because}
-use Rattle.type_check.specs.Post.{buffers, refusalOf, moduleRefusal, loanRefusal, earlyRefusal, lateOutcome, Passed, Ends}
+use Rattle.module_tests.specs.declared.Refusal.{Refusal}
+use Rattle.module_tests.specs.declared.Refusal.the-variants.{Never, Because}
+use Rattle.module_tests.specs.Refusal.{refusalOf, moduleRefusal}
+use Rattle.type_check.specs.Post.{buffers, loanRefusal, earlyRefusal, lateOutcome, Passed, Ends}
 use Rattle.meaning.proofs.Cleared.{cleared-all}
 use Rattle.type_check.proofs.Refusals.{names-counted, all-passed}
 use Rattle.type_check.proofs.Outcomes.{refused-number, refused-never}

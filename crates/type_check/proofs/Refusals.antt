@@ -9,16 +9,17 @@ use lib.Dec.{ltb}
 use lib.ListN.{length, length-map}
 use borrow.Author.Tests.{lt-ltb, le-ltb, ltb-false}
 use Rattle.fallible.specs.Outcome.{orNext}
-use Rattle.node.specs.Names.{namesOf, nameCount, namePlaces, nameBytes, repeatedName, nameRefusal, nameTest}
-use Rattle.node.specs.Layout.{layoutOf, layoutRefusal, layoutTests}
-use Rattle.node.specs.declared.layout.Layout.{Layout}
-use Rattle.node.specs.declared.layout.Layout.the-variants.{Good, TooLong, Fault, TooDeep}
-use Rattle.node.specs.declared.names.Repeated.{Repeated}
-use Rattle.node.specs.declared.names.Repeated.the-variants.{Nowhere, At}
+use Rattle.names.specs.Names.{namesOf, nameCount, namePlaces, nameBytes, repeatedName, nameRefusal, nameTest}
+use Rattle.layout.specs.Layout.{layoutOf, layoutRefusal}
+use Rattle.layout.specs.declared.Layout.{Layout}
+use Rattle.layout.specs.declared.Layout.the-variants.{Good, TooLong, Fault, TooDeep}
+use Rattle.names.specs.declared.Repeated.{Repeated}
+use Rattle.names.specs.declared.Repeated.the-variants.{Nowhere, At}
 use Rattle.meaning.specs.Promise.{workWidth, refuseIf}
-use Rattle.type_check.specs.declared.Refusal.{Refusal}
-use Rattle.type_check.specs.declared.Refusal.the-variants.{Never, Because}
-use Rattle.type_check.specs.Post.{refusalOf, moduleRefusal, loanRefusal, earlyRefusal, Passed}
+use Rattle.module_tests.specs.declared.Refusal.{Refusal}
+use Rattle.module_tests.specs.declared.Refusal.the-variants.{Never, Because}
+use Rattle.module_tests.specs.Refusal.{refusalOf, moduleRefusal}
+use Rattle.type_check.specs.Post.{loanRefusal, earlyRefusal, Passed}
 
 pub names-counted : (s : List ℕ) → length (namesOf s) ≡ nameCount s
 unfolding namesOf nameCount
@@ -40,37 +41,6 @@ module _ (input : List ℕ) (output work names : ℕ) (n : names ≡ nameCount i
 
   pub enough : length input ≤ output → workWidth * names ≤ work → none ≡ loanRefusal input output work
   enough l w = loans false false (le-ltb output (length input) l) (le-ltb work (workWidth * names) w)
-
--- Test 4
-module _ (input : List ℕ) {r : Repeated} (e : nameRefusal r ≡ nameTest input) where
-  pub name-repeated : {p : ℕ} → r ≡ At p → some (4, p) ≡ nameTest input
-  unfolding nameRefusal
-  name-repeated q = ap nameRefusal (sym q) ∙ e
-
-  pub no-name-repeated : r ≡ Nowhere → none ≡ nameTest input
-  unfolding nameRefusal
-  no-name-repeated q = ap nameRefusal (sym q) ∙ e
-
--- Tests 1 to 3, then 4
-module _ (input : List ℕ) {r : Layout} (e : layoutRefusal r ≡ layoutTests input) where
-  by-layout : {y : Layout} → r ≡ y → orNext (layoutRefusal y) (nameTest input) ≡ moduleRefusal input
-  by-layout q = ap (λ (x : Option (ℕ × ℕ)). orNext x (nameTest input)) (ap layoutRefusal (sym q) ∙ e)
-
-  pub too-long : r ≡ TooLong → some (1, 0) ≡ moduleRefusal input
-  unfolding layoutRefusal
-  too-long q = by-layout q
-
-  pub a-fault : {p : ℕ} → r ≡ Fault p → some (2, p) ≡ moduleRefusal input
-  unfolding layoutRefusal
-  a-fault q = by-layout q
-
-  pub too-deep : {p : ℕ} → r ≡ TooDeep p → some (3, p) ≡ moduleRefusal input
-  unfolding layoutRefusal
-  too-deep q = by-layout q
-
-  pub good-layout : {x : Option (ℕ × ℕ)} → r ≡ Good → x ≡ nameTest input → x ≡ moduleRefusal input
-  unfolding layoutRefusal
-  good-layout q h = h ∙ by-layout q
 
 -- Tests 1 to 4, then 5
 module _ (input : List ℕ) (output work : ℕ) {r : Refusal} (e : refusalOf r ≡ moduleRefusal input) where

@@ -6,21 +6,21 @@ use mathlib.Core.List.{List, [], _∷_, _++_, map, map-append}
 use native.Mathlib.Omega.{arith}
 use lib.ListN.{length}
 use Rattle.shape.specs.Shape.{anItem}
-use Rattle.node.specs.Names.{namesEnd, itemPlaces, builtIns}
-use Rattle.node.specs.Layout.{layoutOf}
+use Rattle.names.specs.Names.{namesEnd, itemPlaces, builtIns}
+use Rattle.layout.specs.Layout.{layoutOf}
 use Rattle.node.specs.Fine.{FineRecord}
-use Rattle.node.specs.Tree.{Item}
-use Rattle.node.specs.declared.layout.Layout.the-variants.{Good}
-use Rattle.meaning.specs.Context.{TypeMap, ModuleContext, context, blank, each}
+use Rattle.trees.specs.Tree.{Item}
+use Rattle.layout.specs.declared.Layout.the-variants.{Good}
+use Rattle.meaning.specs.Context.{TypeMap, ModuleContext, context, blank, each, All}
 use Rattle.meaning.specs.Convert.{Slot}
 use Rattle.meaning.specs.Module.{slotType, declarations, declareAll, emptyContext, typesIn1, itemErrors, itemSlots, itemTypes, moduleErrors, typesMet}
-use Rattle.meaning.specs.Promise.{treesOf, builtInsOf, contextOf, errorsOf}
+use Rattle.meaning.specs.Promise.{treesOf, builtInsOf, contextOf, placedErrorsOf}
 use Rattle.meaning.proofs.Order.{builtIns-kept}
 use Rattle.walk.specs.Effect.{store, storeFrom, Effect, _then_}
 use Rattle.walk.specs.Represents.{Lent, Does}
 use Rattle.walk.proofs.Laws.{does-then}
 use Rattle.convert.specs.Convert.{Resolves, storeSlot, visiting}
-use Rattle.slot_places.specs.Absolute.{moduleItemAt, treesAt, itemsAt, All}
+use Rattle.slot_places.specs.Absolute.{moduleItemAt, treesAt, itemsAt}
 use Rattle.slot_places.specs.Stores.{itemStores, moduleStores}
 use Rattle.slot_places.proofs.Items.{same-module, items-fine}
 use Rattle.slot_places.proofs.Listed.{module-items}
@@ -38,7 +38,7 @@ abbrev pub moduleEffect : List ℕ → Effect
 moduleEffect input =
     record {
       stores = moduleStores input (contextOf input);
-      errors = errorsOf input;
+      errors = placedErrorsOf input;
       met = typesMet (builtInsOf input) (treesOf input);
       steps = moduleSteps input;
     }
@@ -79,7 +79,7 @@ module _ (input : List ℕ) (good : layoutOf input ≡ Good) where
       then visiting true (each (itemSlots (declareAll start trees)) trees) (each (itemErrors (declareAll start trees)) trees) (length input - from)
 
   trees-effect : bothPasses (treesAt input) ≡ moduleEffect input
-  unfolding errorsOf moduleErrors typesMet
+  unfolding moduleErrors typesMet
   trees-effect =
       let same = same-module input good in
       let ctx = same .context start in
@@ -89,7 +89,7 @@ module _ (input : List ℕ) (good : layoutOf input ≡ Good) where
       ap₂ _++_ (same .types1 start)
       (map-each slotType (itemSlots (declareAll start (treesAt input))) (treesAt input) ∙ same .types2 (declareAll start (treesAt input)) ∙ ap (λ (m : ModuleContext). each (itemTypes m) (treesOf input)) ctx) in
       let steps : length input - from + (length input - from) ≡ moduleSteps input = omega arith in
-      λ i. record { stores = stores i; errors = same .errors (builtInsOf input) i; met = types i; steps = steps i }
+      λ i. record { stores = stores i; errors = same .errors i; met = types i; steps = steps i }
 
   pub module-effect : bothPasses items ≡ moduleEffect input
   module-effect = ap bothPasses (module-items input good) ∙ trees-effect

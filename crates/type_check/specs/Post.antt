@@ -3,7 +3,7 @@ use Prim.Native.Nat.{ℕ, _*_, _≤_}
 use mathlib.Core.Path.{_≡_}
 use mathlib.Core.Bool.{false, _||_}
 use mathlib.Core.List.{List, [], _∷_}
-use mathlib.Core.Option.{Option, none, some}
+use mathlib.Core.Option.{Option}
 use lib.Dec.{ltb}
 use lib.ListN.{length, drop}
 use denote.Ref.{RefT}
@@ -12,17 +12,16 @@ use Rattle.contract.specs.Moments.{old, final}
 use Rattle.types.specs.Table.{rowWidth}
 use Rattle.fallible.specs.Outcome.{Outcome, refused, accepted, orNext, firstRefusing, outcomeAfter}
 use Rattle.fallible.specs.Errors.{errorWidth, room}
-use Rattle.node.specs.Names.{namesOf, nameCount, repeatedName, nameTest}
-use Rattle.node.specs.Layout.{layoutOf, layoutTests}
-use Rattle.node.specs.declared.layout.Layout.the-variants.{Good}
-use Rattle.node.specs.declared.names.Repeated.the-variants.{Nowhere}
+use Rattle.names.specs.Names.{namesOf, nameCount, repeatedName}
+use Rattle.layout.specs.Layout.{layoutOf}
+use Rattle.layout.specs.declared.Layout.the-variants.{Good}
+use Rattle.names.specs.declared.Repeated.the-variants.{Nowhere}
+use Rattle.module_tests.specs.Refusal.{moduleRefusal}
 use Rattle.meaning.specs.Promise.{workWidth, Counts, countsOf, Buffers, Lengths, lengthsOf, refuseIf}
 use Rattle.meaning.specs.Promise.{cleared, wiped, Accepted}
 use Rattle.walk.specs.declared.State.{State}
 use Rattle.type_check.specs.declared.Answer.{Answer}
 use Rattle.type_check.specs.declared.Answer.the-variants.{Accepted as Counted, Refused}
-use Rattle.type_check.specs.declared.Refusal.{Refusal}
-use Rattle.type_check.specs.declared.Refusal.the-variants.{Never, Because}
 
 -- The four buffers that the entry is lent
 abbrev pub buffers : (output rows errors work : List ℕ) → Buffers
@@ -40,14 +39,6 @@ buffersAfter output rows errors work = buffers (final output) (final rows) (fina
 abbrev pub outcomeOf : Answer → Outcome Counts
 outcomeOf (Counted rows errors) = accepted (record { rows = rows; errors = errors })
 outcomeOf (Refused number place) = refused number place
-
-abbrev pub refusalOf : Refusal → Option (ℕ × ℕ)
-refusalOf Never = none
-refusalOf (Because number place) = some (number, place)
-
--- Tests 1 to 4, which look at the module alone: the first that refuses decides
-abbrev pub moduleRefusal : (input : List ℕ) → Option (ℕ × ℕ)
-moduleRefusal input = orNext (layoutTests input) (nameTest input)
 
 -- Test 5
 abbrev pub loanRefusal : (input : List ℕ) → (output work : ℕ) → Option (ℕ × ℕ)

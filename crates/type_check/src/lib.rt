@@ -4,14 +4,12 @@ use declare::declare_items;
 use fallible::ERROR_WIDTH;
 use items::type_check_items;
 use literal::digits::put_digits;
-use node::fine::Nodes;
-use node::layout::Layout;
-use node::layout::check_layout;
-use node::layout::items_start;
-use node::names::Repeated;
-use node::names::built_ins;
-use node::names::name_count;
-use node::names::repeated_name;
+use module_tests::Refusal;
+use module_tests::module_refusal;
+use names::built_ins;
+use names::name_count;
+use node::Nodes;
+use node::items_start;
 use walk::State;
 use walk::WORK_WIDTH;
 ghost use mathlib.Core.Path.{_≡_};
@@ -20,9 +18,10 @@ ghost use Prim.Native.Nat.{_≤_, _*_};
 ghost use mathlib.Core.List.{_++_};
 ghost use lib.ListN.{length, replicate, drop};
 ghost use Rattle.contract.specs.Moments.{old, final};
-ghost use Rattle.node.specs.Names.{nameCount, nameTest};
+ghost use Rattle.names.specs.Names.{nameCount};
+ghost use Rattle.module_tests.specs.Refusal.{refusalOf};
 ghost use Rattle.meaning.specs.Promise.{Checked, cleared, workWidth};
-ghost use Rattle.type_check.specs.Post.{buffersBefore, buffersAfter, outcomeOf, refusalOf, moduleRefusal};
+ghost use Rattle.type_check.specs.Post.{buffersBefore, buffersAfter, outcomeOf};
 ghost use Rattle.type_check.specs.Post.{loanRefusal, earlyRefusal, Passed, BothPasses, Ends};
 
 // The answer: how many rows and errors there are, or why the module is turned back and where.
@@ -31,41 +30,8 @@ pub enum Answer {
     Refused { number: u32, place: usize },
 }
 
-// Why a module is turned back, if it is.
-pub enum Refusal {
-    Never,
-    Because { number: u32, place: usize },
-}
-
 // How many levels are left for an item.
 const ITEM_DEPTH: usize = 63;
-
-// Test 4.
-fn name_refusal(input: &[u8]) -> Refusal
-    ensures { λ r. ⌜ refusalOf r ≡ nameTest (old input) ⌝ }
-{
-    let repeated = repeated_name(input);
-    match repeated {
-        Repeated::Nowhere => Refusal::Never,
-        Repeated::At(place) => Refusal::Because { number: 4, place },
-    }
-}
-
-// Tests 1 to 4: why the module is turned back, whatever is lent.
-pub fn module_refusal(input: &[u8]) -> Refusal
-    ensures { λ r. ⌜ refusalOf r ≡ moduleRefusal (old input) ⌝ }
-{
-    let layout = check_layout(input);
-    match layout {
-        Layout::Good => name_refusal(input),
-        Layout::TooLong => Refusal::Because {
-            number: 1,
-            place: 0,
-        },
-        Layout::Fault(place) => Refusal::Because { number: 2, place },
-        Layout::TooDeep(place) => Refusal::Because { number: 3, place },
-    }
-}
 
 // Test 5: the output is shorter than the input, or there are too few working words.
 fn loan_refusal(input: &[u8], output: usize, work: usize) -> Refusal

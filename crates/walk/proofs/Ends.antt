@@ -80,7 +80,7 @@ module _ (w : List ℕ) (c : ℕ) where
       let a = ap (λ (j : ℕ). operandOf w j 0 (x .first)) k ∙ read-operand (d .kind) 0 (d .first) (x .first) (s .first) in
       let b = ap (λ (j : ℕ). operandOf w j 1 (x .second)) k ∙ read-operand (d .kind) 1 (d .second) (x .second) (s .second) in
       let z = ap (λ (j : ℕ). operandOf w j 2 (x .third)) k ∙ read-operand (d .kind) 2 (d .third) (x .third) (s .third) in
-      λ i. record { kind = k i; file = s .file i; line = s .line i; column = s .column i; first = a i; second = b i; third = z i }
+      λ i. record { kind = k i; file = s .file i; line = s .line i; column = s .column i; first = a i; second = b i; third = z i; place = s .place i }
 
   read-all : (ds : List TypeError) (xs : List Error) → SpellsAll w c ds xs → map (unfoldError w) xs ≡ ds
   unfolding SpellsAll

@@ -63,6 +63,7 @@ module _ (w w′ : List ℕ) (c c′ : ℕ) (e : Extends w c w′ c′) where
       first = operand-later (e .kind) 0 (e .first) (x .first) (h .0 .first);
       second = operand-later (e .kind) 1 (e .second) (x .second) (h .0 .second);
       third = operand-later (e .kind) 2 (e .third) (x .third) (h .0 .third);
+      place = h .0 .place;
     },
     spells-later es xs (h .1),
   )

@@ -7,7 +7,7 @@ use mathlib.Core.Logic.{_⊎_, inl, inr, ⊎-elim}
 use native.Mathlib.Omega.{arith}
 use lib.ListN.{length, getD}
 use lib.Seq.{length-sets}
-use Rattle.node.specs.Bytes.{byteAt, halfAt, wordAt}
+use Rattle.record_bytes.specs.Bytes.{byteAt, halfAt, wordAt}
 use Rattle.fallible.proofs.Stores.{getD-sets-before, getD-sets-after, getD-sets-inside}
 use Rattle.walk.specs.Effect.{Store}
 use Rattle.walk.specs.Words.{wordBytes, slotPlace, slotStored, slotEnd}

@@ -113,6 +113,7 @@ pub record Spells (rows : List ℕ) (count : ℕ) (e : TypeError) (x : Error) : 
   pub first : SpellsOperand rows count (e .kind) 0 (e .first) (x .first)
   pub second : SpellsOperand rows count (e .kind) 1 (e .second) (x .second)
   pub third : SpellsOperand rows count (e .kind) 2 (e .third) (x .third)
+  pub place : x .place ≡ e .place
 
 unfoldable pub SpellsAll : (rows : List ℕ) → (count : ℕ) → List TypeError → List Error → Type 0
 SpellsAll rows count [] [] = Unit {0}

@@ -3,7 +3,7 @@ use Prim.Native.Nat.{ℕ, _+_, _*_, _/_, _%_}
 use mathlib.Core.List.{List, [], _∷_}
 use lib.ListN.{getD}
 use lib.Seq.{sets}
-use Rattle.node.specs.Bytes.{fieldSize, headEnd}
+use Rattle.record_bytes.specs.Bytes.{fieldSize, headEnd}
 use Rattle.meaning.specs.Context.{TypeMap, Context, noTypes}
 use Rattle.meaning.specs.Promise.{workWidth}
 

@@ -1,5 +1,5 @@
 // What a walk of the checker has done so far: counts by value, words in lent slices, and the primitive steps on them.
-use node::bytes::HEAD_END;
+use record_bytes::HEAD_END;
 use types::Interned;
 use types::Row;
 ghost use mathlib.Core.Path.{_≡_};

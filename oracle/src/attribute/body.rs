@@ -1,7 +1,7 @@
 //! Function bodies, initial values and expressions of the reference's output.
 
 use super::{Attribution, Said, Typed, unlike};
-use crate::{decode::ARITHMETIC, layout::Record, node::*, type_check::Type};
+use crate::{answer::LITERAL_ERROR, decode::ARITHMETIC, layout::Record, node::*, type_check::Type};
 
 type TypedExpression = Expression<Type, Type>;
 
@@ -142,8 +142,8 @@ impl Attribution<'_> {
             (32, ExpressionKind::Identifier(_)) => {
                 self.may(10, record.at, &[Said::Name(record.fields[1])]);
             }
-            (33, ExpressionKind::Integer(digits, _)) => {
-                self.may(23, record.at, &[Said::Text(digits.clone())]);
+            (33, ExpressionKind::Integer(digits, base)) => {
+                self.may(LITERAL_ERROR, record.at, &[Said::Literal(digits, *base, record.place)]);
             }
             (34, ExpressionKind::Boolean(_)) | (35, ExpressionKind::String(_)) => {}
             (36, ExpressionKind::Call { target, arguments }) if arguments.len() + 1 == children.len() => {

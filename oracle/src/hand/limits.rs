@@ -5,6 +5,7 @@ use super::{
     items::example_module, module, name, number, pointer, put, record, structure, ty, void,
 };
 use crate::{
+    answer::ERROR_WIDTH,
     layout::{self, Place},
     model,
     product::Loans,
@@ -119,9 +120,12 @@ pub fn with_errors(errors: usize) -> Vec<u8> {
 /// The words of the rows that every table begins with.
 const SEVEN_ROWS: usize = 7 * ROW_WIDTH;
 
+/// The words of the example's errors.
+const TWO_ERRORS: usize = 2 * ERROR_WIDTH;
+
 /// The example with exactly what it needs lent, and less of each by one. Its type stands on another line each time.
 fn loans(all: &mut Vec<Case>) {
-    let exact = Loans { output: 112, rows: SEVEN_ROWS, errors: 14, work: 8 };
+    let exact = Loans { output: 112, rows: SEVEN_ROWS, errors: TWO_ERRORS, work: 8 };
     let lent = [
         ("exact loans", exact),
         ("an output of one byte more", Loans { output: 113, ..exact }),
@@ -130,9 +134,9 @@ fn loans(all: &mut Vec<Case>) {
         ("working words to spare", Loans { work: 9, ..exact }),
         ("one row word less", Loans { rows: SEVEN_ROWS - 1, ..exact }),
         ("row words to spare", Loans { rows: SEVEN_ROWS + 4, ..exact }),
-        ("one error word less", Loans { errors: 13, ..exact }),
-        ("error words to spare", Loans { errors: 20, ..exact }),
-        ("too few rows and errors", Loans { rows: SEVEN_ROWS - 1, errors: 13, ..exact }),
+        ("one error word less", Loans { errors: TWO_ERRORS - 1, ..exact }),
+        ("error words to spare", Loans { errors: TWO_ERRORS + ERROR_WIDTH - 1, ..exact }),
+        ("too few rows and errors", Loans { rows: SEVEN_ROWS - 1, errors: TWO_ERRORS - 1, ..exact }),
         ("nothing lent", Loans { output: 0, rows: 0, errors: 0, work: 0 }),
     ];
     for ((what, loans), line) in lent.into_iter().zip(4..) {

@@ -5,6 +5,7 @@ mod expressions;
 mod faults;
 mod items;
 pub mod limits;
+pub mod messages;
 mod statements;
 
 use crate::{
@@ -229,6 +230,7 @@ pub fn cases() -> Vec<Case> {
     statements::add(&mut all);
     items::add(&mut all);
     limits::add(&mut all);
+    messages::add(&mut all);
     faults::add(&mut all);
     all
 }

@@ -2,7 +2,7 @@
 
 use super::{Model, Scope, fits_u16};
 use crate::{
-    answer::Operand,
+    answer::{LITERAL_ERROR, Operand},
     layout::Record,
     rows::{BOOL, I16, STRING, U16, UNKNOWN, kind},
 };
@@ -17,7 +17,7 @@ impl Model {
             32 => self.identifier(record, scope),
             33 => {
                 if !fits_u16(&record.bytes, record.fields[1]) {
-                    self.error(23, record.at, &[]);
+                    self.error_at(LITERAL_ERROR, record.at, &[], record.place as u32);
                 }
                 U16
             }

@@ -93,6 +93,11 @@ impl Model {
     }
 
     fn error(&mut self, kind: u32, at: Place, operands: &[Operand]) {
+        self.error_at(kind, at, operands, 0);
+    }
+
+    /// An error that has a place in the file.
+    fn error_at(&mut self, kind: u32, at: Place, operands: &[Operand], place: u32) {
         let mut all = [Operand::Number(0); 3];
         all[..operands.len()].copy_from_slice(operands);
         for operand in operands {
@@ -100,7 +105,7 @@ impl Model {
                 self.touched.push(row);
             }
         }
-        self.answer.errors.push(Error { kind, at, operands: all });
+        self.answer.errors.push(Error { kind, at, operands: all, place });
     }
 
     fn name_error(&mut self, kind: u32, at: Place, name: u32) {

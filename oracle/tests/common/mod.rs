@@ -6,16 +6,16 @@ use std::time::Duration;
 pub use oracle::hand::*;
 use oracle::{
     answer::{Answer, refusal_text, texts},
-    layout, model, reference,
+    compare, layout, model, reference,
     tree::Tree,
 };
 
 /// The answer of both checkers, which must agree.
 pub fn both(bytes: &[u8]) -> Answer {
     let module = layout::read(bytes).expect("a good module");
-    let answer = reference::check(&module, Duration::from_secs(20)).expect("an answer of the reference");
-    assert_eq!(answer.text(), model::check(&module).answer.text());
-    answer
+    let spoken = reference::check(&module, Duration::from_secs(20)).expect("an answer of the reference");
+    assert_eq!(compare::difference(&module, &spoken, &model::check(&module).answer), None);
+    spoken.answer
 }
 
 /// The kinds of the errors of a module of these items.

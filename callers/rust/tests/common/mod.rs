@@ -1,4 +1,4 @@
-//! The rows of every table, and what a question is answered.
+//! The rows of every table, records of a module, and what a question is answered.
 #![allow(dead_code)]
 
 use delta_null_type_check::{Cast, ROW_WORDS, Refused};
@@ -33,4 +33,19 @@ pub fn refused<T>(number: u32, place: usize) -> Result<T, Refused> {
 
 pub fn cast(castable: bool, pairs: u64) -> Result<Cast, Refused> {
     Ok(Cast { castable, pairs })
+}
+
+/// A record of a module at no place of a source: its fields, and the records or bytes in it.
+pub fn record(kind: u32, fields: &[u32], inside: &[&[u8]]) -> Vec<u8> {
+    let inside = inside.concat();
+    let length = 16 + 4 * fields.len() + inside.len();
+    let head = [&[length as u32, kind, 0, 0], fields].concat();
+    head.iter().flat_map(|word| word.to_le_bytes()).chain(inside).collect()
+}
+
+/// A module with these names and items.
+pub fn module(names: &[&[u8]], items: &[&[u8]]) -> Vec<u8> {
+    let names: Vec<Vec<u8>> = names.iter().map(|name| record(3, &[], &[name])).collect();
+    let list = record(2, &[], &[&names.concat()]);
+    record(1, &[], &[&list, &items.concat()])
 }

@@ -15,10 +15,10 @@ use Rattle.clear_locals.proofs.clear_statement.Reads as clear-statement
 use Rattle.clear_locals.proofs.clear_statement.Kinds as clear-statement-kinds
 use Rattle.clear_locals.proofs.+clear_block+clear_statement.Lts-clear_statement as clear-statement-lts
 use Rattle.divergence.proofs.inner_statements.Reads as inner-statements-reads
-use Rattle.node.proofs.bytes.length_at.Reads as length-at-reads
-use Rattle.node.proofs.bytes.word.Reads as word-reads
+use Rattle.record_bytes.proofs.length_at.Reads as length-at-reads
+use Rattle.record_bytes.proofs.word.Reads as word-reads
 use Rattle.walk.proofs.set_word.Reads as set-word-reads
-use Rattle.node.proofs.fine.children.Reads as children-reads
+use Rattle.node.proofs.children.Reads as children-reads
 use Rattle.clear_locals.proofs.+clear_block+clear_statement.{statement}
 use Rattle.clear_locals.proofs.+clear_block+clear_statement.Tie.{close}
 

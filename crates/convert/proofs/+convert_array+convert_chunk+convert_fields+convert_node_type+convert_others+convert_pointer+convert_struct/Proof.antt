@@ -39,8 +39,8 @@ use Rattle.convert.proofs.named_type.Reads as named-type-reads
 use Rattle.convert.proofs.settle.Reads as settle-reads
 use Rattle.convert.proofs.settle_row.Reads as settle-row-reads
 use Rattle.convert.proofs.type_kind.Reads as type-kind-reads
-use Rattle.node.proofs.bytes.length_at.Reads as length-at-reads
-use Rattle.node.proofs.bytes.word.Reads as word-reads
+use Rattle.record_bytes.proofs.length_at.Reads as length-at-reads
+use Rattle.record_bytes.proofs.word.Reads as word-reads
 use Rattle.convert.proofs.+convert_array+convert_chunk+convert_fields+convert_node_type+convert_others+convert_pointer+convert_struct.{
   statement,
 }

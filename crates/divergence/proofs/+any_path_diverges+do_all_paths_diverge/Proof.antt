@@ -13,9 +13,9 @@ use Rattle.divergence.proofs.do_all_paths_diverge.Kinds as do-all-paths
 use Rattle.divergence.proofs.+any_path_diverges+do_all_paths_diverge.Lts-do_all_paths_diverge as do-all-paths-diverge-lts
 use Rattle.divergence.proofs.find_break_in.Reads as find-break-in-reads
 use Rattle.divergence.proofs.inner_statements.Reads as inner-statements-reads
-use Rattle.node.proofs.bytes.length_at.Reads as length-at-reads
-use Rattle.node.proofs.fine.children.Reads as children-reads
-use Rattle.node.proofs.fine.inside.Reads as inside-reads
+use Rattle.record_bytes.proofs.length_at.Reads as length-at-reads
+use Rattle.node.proofs.children.Reads as children-reads
+use Rattle.node.proofs.inside.Reads as inside-reads
 use Rattle.divergence.proofs.+any_path_diverges+do_all_paths_diverge.{statement}
 use Rattle.divergence.proofs.+any_path_diverges+do_all_paths_diverge.Tie.{close}
 

@@ -12,8 +12,8 @@ use Rattle.divergence.proofs.find_break_in.Reads as find-break-in
 use Rattle.divergence.proofs.find_break_in.Kinds as find-break-in-kinds
 use Rattle.divergence.proofs.+find_break+find_break_in.Lts-find_break_in as find-break-in-lts
 use Rattle.divergence.proofs.inner_statements.Reads as inner-statements-reads
-use Rattle.node.proofs.bytes.length_at.Reads as length-at-reads
-use Rattle.node.proofs.fine.children.Reads as children-reads
+use Rattle.record_bytes.proofs.length_at.Reads as length-at-reads
+use Rattle.node.proofs.children.Reads as children-reads
 use Rattle.divergence.proofs.+find_break+find_break_in.{statement}
 use Rattle.divergence.proofs.+find_break+find_break_in.Tie.{close}
 

@@ -36,9 +36,9 @@ use Rattle.expression.proofs.has_one_operand.Reads as has-one-operand-r
 use Rattle.expression.proofs.leaf.Reads as leaf-reads
 use Rattle.expression.proofs.sizeof.Reads as sizeof-reads
 use Rattle.call_rules.proofs.call_result.Reads as call-result-reads
-use Rattle.node.proofs.bytes.half.Reads as half-reads
-use Rattle.node.proofs.bytes.length_at.Reads as length-at-reads
-use Rattle.node.proofs.fine.enter.Reads as enter-reads
+use Rattle.record_bytes.proofs.half.Reads as half-reads
+use Rattle.record_bytes.proofs.length_at.Reads as length-at-reads
+use Rattle.node.proofs.enter.Reads as enter-reads
 use Rattle.expression_rules.proofs.binary.Reads as binary-reads
 use Rattle.expression_rules.proofs.cast.Reads as cast-reads
 use Rattle.expression_rules.proofs.unary.Reads as unary-reads

@@ -46,8 +46,8 @@ enum-told c = search needs
 enum-told-2 : tie.Need-enum-told-2
 enum-told-2 c = search needs
 
-error-at-requires : tie.Need-error-at-requires
-error-at-requires c κs = search needs
+literal-error-requires : tie.Need-literal-error-requires
+literal-error-requires c κs = search needs
 
 report-requires : tie.Need-report-requires
 report-requires c κs = search needs
@@ -79,7 +79,7 @@ integer-spec =
     from-str-radix-with-requires
     enum-told
     enum-told-2
-    error-at-requires
+    literal-error-requires
     report-requires
     returns
     same-length

@@ -170,10 +170,10 @@ module _ {M : Type 1} (𝓤 : URA M) (H : Heap 𝓤) (A : Atoms 𝓤) (W : Given
     Left = afterBlock 𝓤 H (afterSeq 𝓤 H (Wp 𝓤 H C Λ En code-mir.t-3 (atReturn 𝓤 H En Post)) (atReturn 𝓤 H En Post))
 
     -- a turn that fills one record
-    more : (i : ℕ) (X : SProp 𝓤) → i < n → i < 2 ^ 64 → errorWidth * (i + 1) ≤ length ws → i * 28 < 2 ^ 64 → i + 1 < 2 ^ 64 → i < length ys → i < length (zs i)
+    more : (i : ℕ) (X : SProp 𝓤) → i < n → i < 2 ^ 64 → errorWidth * (i + 1) ≤ length ws → i * 32 < 2 ^ 64 → i + 1 < 2 ^ 64 → i < length ys → i < length (zs i)
         → ent 𝓤 (⋆ 𝓤 H A (At (suc i))) X → ent 𝓤 (⋆ 𝓤 H A (At i)) (Wp 𝓤 H C Λ En code-mir.turn-1 (afterTurn 𝓤 H X Left))
     unfolding afterTurn
-    more i X small fits within fits28 next-fits in-list in-row k =
+    more i X small fits within fits32 next-fits in-list in-row k =
         qed W (At i) ∵ exec ! C Λ En code-mir.turn-1 (anyQ (afterTurn 𝓤 H X Left)) $
         assigns ! (bin ! (load ! (from ! (stop !)) (look ! 1 refl)) (load ! (from ! (stop !)) (look ! 8 refl)) tt) (from ! (stop !)) (init ! 2 refl (tt, tt)) $
         rewrite ! 2 (λ (t : Bool). ‵ (fat fullShare tyBool l₅ 0 (vbool t))) (lt-ltb i n small) refl $
@@ -197,9 +197,9 @@ module _ {M : Type 1} (𝓤 : URA M) (H : Heap 𝓤) (A : Atoms 𝓤) (W : Given
         land ! (from ! (stop !)) (init ! 6 refl (LL.lawful E.the-type E′.the-laws 𝓤 H A W .typed r _ is .0)) $
         drop ! $
         -- the place of the record
-        assigns ! (bin ! (load ! (from ! (stop !)) (look ! 3 refl)) (lit ! tt) (record { fits = fits28 })) (from ! (stop !)) (init ! 6 refl (tt, record { fits = fits28 })) $
+        assigns ! (bin ! (load ! (from ! (stop !)) (look ! 3 refl)) (lit ! tt) (record { fits = fits32 })) (from ! (stop !)) (init ! 6 refl (tt, record { fits = fits32 })) $
         assigns ! (bin ! (load ! (from ! (fld ! refl (stop !))) (look-in ! 8 (sub ! 0 refl (whole !)))) (load ! (from ! (stop !)) (look ! 6 refl)) tt) (from ! (stop !)) (init ! 7 refl (tt, tt)) $
-        rewrite ! 7 (λ (p : ℕ). ‵ (fat fullShare tyPtr l₈ 0 (vptr b p))) (sym (place-is 28 o i)) refl $
+        rewrite ! 7 (λ (p : ℕ). ‵ (fat fullShare tyPtr l₈ 0 (vptr b p))) (sym (place-is 32 o i)) refl $
         move ! (2 ∷ []) $
         elem-out ! E.the-row (Is E.the-row) (shows 𝓤 H A E.the-row) (LL.vals E.the-type E′.the-laws) (LL.tells E.the-type E′.the-laws) fullShare (zs i) i r b o in-row (λ _.
         assigns ! (of-opd ! (load ! (from ! (stop !)) (look ! 7 refl))) (from ! (hop ! (look ! 9 refl) (stop !))) (store-raw ! 0 refl (LL.lawful E.the-type E′.the-laws 𝓤 H A W .typed r _ is .0)) $
@@ -243,7 +243,7 @@ module _ {M : Type 1} (𝓤 : URA M) (H : Heap 𝓤) (A : Atoms 𝓤) (W : Given
     turns : (t : ℕ) → ent 𝓤 (Inv t) (Wp 𝓤 H C Λ En code-mir.turn-1 (afterTurn 𝓤 H (Below t) Left))
     turns zero = guardE 𝓤 (zero ≤ n) (⋆ 𝓤 H A (At (n - zero))) (λ _. subst (λ (k : ℕ). ent 𝓤 (⋆ 𝓤 H A (At k)) (Wp 𝓤 H C Λ En code-mir.turn-1 (afterTurn 𝓤 H (Below zero) Left))) (sym (sub-zero n)) (ends (Below zero)))
     turns (suc t) = guardE 𝓤 (suc t ≤ n) (⋆ 𝓤 H A (At (n - suc t))) (λ le.
-        more (n - suc t) (Below (suc t)) (small t le) (fits t le) (within t le) (fits28 t le) (next t le) (in-list t le)
+        more (n - suc t) (Below (suc t)) (small t le) (fits t le) (within t le) (fits32 t le) (next t le) (in-list t le)
         (subst (λ (m : ℕ). n - suc t < m) (sym (records-long ws (n - suc t) ys (short t le))) (in-list t le)) (below t le))
       where
         small : (t : ℕ) → suc t ≤ n → n - suc t < n
@@ -255,8 +255,8 @@ module _ {M : Type 1} (𝓤 : URA M) (H : Heap 𝓤) (A : Atoms 𝓤) (W : Given
         within : (t : ℕ) → suc t ≤ n → errorWidth * (n - suc t + 1) ≤ length ws
         within t le = omega (arith, le, enough .1)
 
-        fits28 : (t : ℕ) → suc t ≤ n → (n - suc t) * 28 < 2 ^ 64
-        fits28 t le = omega (arith, le, enough .0, room .1)
+        fits32 : (t : ℕ) → suc t ≤ n → (n - suc t) * 32 < 2 ^ 64
+        fits32 t le = omega (arith, le, enough .0, room .1)
 
         next : (t : ℕ) → suc t ≤ n → n - suc t + 1 < 2 ^ 64
         next t le = omega (arith, le, n-fits)

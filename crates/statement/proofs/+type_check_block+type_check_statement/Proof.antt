@@ -16,7 +16,7 @@ use Rattle.statement.proofs.type_check_statement.Reads as type-check-st
 use Rattle.statement.proofs.type_check_statement.Kinds as type-check-statement-kinds
 use Rattle.statement.proofs.+type_check_block+type_check_statement.Lts-type_check_statement as type-check-statement-lts
 use Rattle.divergence.proofs.inner_statements.Reads as inner-statements-reads
-use Rattle.node.proofs.bytes.length_at.Reads as length-at-reads
+use Rattle.record_bytes.proofs.length_at.Reads as length-at-reads
 use Rattle.statement.proofs.own_parts.Reads as own-parts-reads
 use Rattle.statement.proofs.+type_check_block+type_check_statement.{statement}
 use Rattle.statement.proofs.+type_check_block+type_check_statement.Tie.{close}

@@ -1,0 +1,2 @@
+pub mod Descriptions
+pub mod Operands

@@ -1,0 +1,11 @@
+pub mod Naming
+pub mod PartRows
+pub mod Openings
+pub mod Middles
+pub mod Whole
+pub mod Lengths
+pub mod Filling
+pub mod Owning
+pub mod WriteLaws
+pub mod Nesting
+pub mod Examples

@@ -1,0 +1,5 @@
+pub mod Display
+pub mod Names
+pub mod Length
+pub mod Parts
+pub mod Write

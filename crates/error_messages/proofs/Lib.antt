@@ -1,0 +1,10 @@
+pub mod Steps
+pub mod Words
+pub mod LineSteps
+pub mod PieceLaws
+pub mod BuiltInLaws
+pub mod RowNames
+pub mod ErrorSteps
+pub mod SoundLaws
+pub mod Answers
+pub mod Examples

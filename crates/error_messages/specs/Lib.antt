@@ -1,0 +1,3 @@
+pub mod Description
+pub mod Messages
+pub mod Inner

@@ -1,0 +1,4 @@
+pub mod FileRecords
+pub mod Readable
+pub mod Told
+pub mod Examples
