@@ -1,5 +1,5 @@
 #!/bin/sh
-# Builds the static library and the examples in C and Rust over it, and holds what they print of three module files, of one cut short and of
+# Builds the static library and the examples in C and Rust over it, and holds what they print of two module files, of one cut short and of
 # a file of no bytes to what is expected. Then what is said of pointers behind aliases, the Rust crate's tests, and the deepest and the
 # longest modules on a thread with a stack of 128 KB. Exits nonzero on a difference. Needs rt, cc and cargo on x86-64 Linux.
 set -eu
@@ -35,7 +35,6 @@ expect "$out/short.module" "$out/short.expected"
 { echo 'rows 7 errors 0' && tail -1 callers/example.expected; } >"$out/empty.expected"
 expect "$out/empty.module" "$out/empty.expected"
 expect crates/dump/stdin callers/dump.expected
-expect callers/hours.module callers/hours.expected
 "$out/decay_c" >"$out/printed" || { echo 'callers: decay was refused'; exit 1; }
 diff callers/decay.expected "$out/printed" || { echo 'callers: decay differs'; exit 1; }
 cargo test --release

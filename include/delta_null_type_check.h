@@ -7,7 +7,7 @@
  * any bytes and any words: what is wrong or too short is refused.
  *
  * A call needs at most 128 KB (131,072 bytes) of stack, whatever the module and the parts lent. No proof speaks of the stack: this is
- * measured, by callers/c/stack.c, on the deepest and the longest modules that were found; the most is 99,532 bytes.
+ * measured, by callers/c/stack.c, on the deepest and the longest modules that were found; the most is 88,984 bytes.
  *
  * What a caller owes, since the proof takes it from the types `&` and `&mut`:
  *  - a pointer is not NULL, even where the length is 0, and is aligned for its type;
@@ -89,7 +89,7 @@ uint32_t delta_null_type_check_module(
  * Tested in this order:
  *  - 1 to 4 on the module, as for a check; the place is that of the refusal;
  *  - 8, at 0: the rows break a rule or are fewer than row_count; a row of kind 10 to 12 other than row 7 has a name that is past the
- *    module's names; the errors are fewer than error_count; an error has a kind that is not 1 to 30, a name that is past the names, a type
+ *    module's names; the errors are fewer than error_count; an error has a kind that is not 1 to 29, a name that is past the names, a type
  *    that is no type row, an operator that is not 1 to 9, of kind 23 a place at which no literal's record starts, of kind 3 a name other
  *    than u16, i16, bool and String. Words that no message reads may be anything: file, line, column, operands that the kind does not
  *    use, the place of other kinds;

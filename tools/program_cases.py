@@ -1,17 +1,15 @@
 #!/usr/bin/env python3
-"""Makes the modules that the programs report, messages and dump are run on: `stdin` of crates/report, crates/messages and crates/dump;
-and the module of two hour tables that the examples of callers/ are run on, `callers/hours.module`.
+"""Makes the modules that the programs report, messages and dump are run on: `stdin` of crates/report, crates/messages and crates/dump.
 
 Usage:  python3 tools/program_cases.py
 What report prints of its module is in document 01; messages and dump are run on the same module. What dump prints was compared with the
-oracle (`oracle render` and `oracle check`), what messages prints too (`oracle messages`), and what the examples print of the hour tables
-(`oracle report` and `oracle messages`).
+oracle (`oracle render` and `oracle check`), what messages prints too (`oracle messages`).
 """
 import os
 
 import module_file
 
-ROOT = os.path.join(os.path.dirname(os.path.abspath(__file__)), '..')
+crates = os.path.join(os.path.dirname(os.path.abspath(__file__)), '..', 'crates')
 NAMES = ['u16', 'bool', 'Pair', 'left', 'right', 'sum', 'pair', 'Word', 'text', 'flag']
 
 
@@ -23,8 +21,8 @@ def module(names, items):
     return module_file.module([name.encode() for name in names], items, place=(0, 0, 0))
 
 
-def write(data, *path):
-    with open(os.path.join(ROOT, *path), 'wb') as f:
+def write(crate, data):
+    with open(os.path.join(crates, crate, 'stdin'), 'wb') as f:
         f.write(data)
 
 
@@ -47,7 +45,7 @@ def field(line, column, name):
 
 
 # var x: u17;
-write(module(['x', 'u17'], [record(83, 0, 0, 0, record(16, 3, 8, 0, 1))]), 'crates', 'report', 'stdin')
+write('report', module(['x', 'u17'], [record(83, 0, 0, 0, record(16, 3, 8, 0, 1))]))
 
 fields = [
     record(21, 2, 14, number('left'), name_type(2, 20, 'u16')),
@@ -69,17 +67,5 @@ program = module(NAMES, [
     record(83, 3, 1, number('text'), record(18, 3, 11, 0, name_type(3, 12, 'u16')), record(35, 3, 18, 0, b'hi')),
     record(80, 5, 1, number('sum'), name_type(5, 24, 'u16'), pair, record(64, 5, 30, 0, flag, early, late)),
 ])
-write(program, 'crates', 'messages', 'stdin')
-write(program, 'crates', 'dump', 'stdin')
-
-
-def hours(file, size):
-    """var hours: [size]u16; the first line of a file"""
-    u16 = module_file.record(16, 0, 0, place=(file, 1, 16))
-    return module_file.record(83, 1, module_file.record(19, 0, size, u16, place=(file, 1, 12)), place=(file, 1, 1))
-
-
-# Two parts, files 1 and 2, declare the table; in the third a function returns hours[24].
-read = record(37, 3, 12, 0, record(32, 3, 12, 0, 1), record(33, 3, 18, 0, 10, b'24'))
-last = record(80, 2, 1, 2, record(16, 2, 14, 0, 0), record(64, 2, 18, 0, record(69, 3, 5, read)))
-write(module(['u16', 'hours', 'last'], [hours(1, 24), hours(2, 25), last]), 'callers', 'hours.module')
+write('messages', program)
+write('dump', program)

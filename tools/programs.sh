@@ -1,6 +1,6 @@
 #!/bin/sh
-# Runs ./run report, messages, dump and shuffle on a file of no bytes, on files of 1, 8 and 15 bytes, on document 01's module and on one of two
-# hour tables, and holds what they write and their status to what is expected:  tools/programs.sh
+# Runs ./run report, messages, dump and shuffle on a file of no bytes, on files of 1, 8 and 15 bytes and on document 01's module, and holds
+# what they write and their status to what is expected:  tools/programs.sh
 set -eu
 cd "$(dirname "$0")/.."
 room=$(mktemp -d)
@@ -46,11 +46,6 @@ expect 1 "$room/messages" messages callers/example.module
 { cat "$room/fixed_rows" && echo 'slot 104 1' && echo 'error 1 0 3 8 1 0 0 0' && echo 'error 1 0 3 8 1 0 0 0'; } >"$room/all"
 expect 1 "$room/all" dump callers/example.module
 expect 0 callers/example.module shuffle callers/example.module 7
-
-head -2 callers/hours.expected >"$room/errors"
-expect 1 "$room/errors" report callers/hours.module
-sed -n 3p callers/hours.expected >"$room/messages"
-expect 1 "$room/messages" messages callers/hours.module
 
 [ $failed -eq 0 ] || exit 1
 echo 'programs: ok'

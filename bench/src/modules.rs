@@ -1,10 +1,8 @@
 //! The modules that are measured, by class.
 
-use std::collections::HashSet;
-
 use oracle::{
     generate,
-    hand::{U16, X, array, at, cast, global, global_with, id, limits, literal, over, record, ty},
+    hand::{U16, X, array, at, cast, global, global_with, id, limits, literal, record, ty},
     layout::{self, MOST_BYTES, Place},
     model,
     reference::MOST_WORK,
@@ -22,12 +20,9 @@ pub struct Class {
 /// Classes of one sort: their name, what makes a module of a size, and the sizes.
 pub type Row = (&'static str, fn(usize) -> Vec<u8>, &'static [usize]);
 
-/// Whether the reference has at most so much work with a module, and the names that functions and variables share are pairs.
+/// Whether the reference has at most so much work with a module.
 pub fn is_fit(bytes: &[u8], most: u64) -> bool {
-    layout::read(bytes).is_ok_and(|module| {
-        let outcome = model::check(&module);
-        outcome.work <= most && !outcome.answer.has_duplicates()
-    })
+    layout::read(bytes).is_ok_and(|module| model::check(&module).work <= most)
 }
 
 /// Generated modules of some sizes.
@@ -36,23 +31,12 @@ fn generated(class: &str, sizes: std::ops::RangeInclusive<usize>, count: usize) 
     drawn.filter(|bytes| sizes.contains(&bytes.len()) && is_fit(bytes, MOST_WORK)).take(count).collect()
 }
 
-/// The items of generated modules one after another, up to so many bytes. A function or variable whose name an earlier part declares has
-/// another in its own part.
+/// The items of generated modules one after another, each with its own names, up to so many bytes.
 fn joined(size: usize, seed: u64) -> Vec<u8> {
     let (mut names, mut items): (Vec<Vec<u8>>, Vec<Tree>) = (vec![], vec![]);
-    let mut declared: HashSet<Vec<u8>> = HashSet::new();
     let mut used = 32;
-    for seed in (seed..).filter(|&seed| is_fit(&generate::module("typed", seed), MOST_WORK)) {
-        let mut part = layout::read(&generate::module("typed", seed)).unwrap();
-        let globals: HashSet<u32> =
-            part.items.iter().filter(|item| matches!(item.kind, 80 | 83)).map(|item| item.fields[0]).collect();
-        for global in globals {
-            let name = &mut part.names[global as usize];
-            if !declared.insert(name.clone()) {
-                name.extend(format!("_{seed}").bytes());
-                declared.insert(name.clone());
-            }
-        }
+    for seed in seed.. {
+        let part = layout::read(&generate::module("typed", seed)).unwrap();
         let mut numbers = vec![];
         for name in &part.names {
             let number = names.iter().position(|one| one == name).unwrap_or_else(|| {
@@ -84,6 +68,13 @@ fn renumber(tree: &mut Tree, numbers: &[u32]) {
         }
     }
     tree.children.iter_mut().for_each(|child| renumber(child, numbers));
+}
+
+/// A module over some names and so many of a number each.
+pub fn over(first: &[&str], names: usize, items: Vec<Tree>) -> Vec<u8> {
+    let mut all: Vec<String> = first.iter().map(|&name| name.to_owned()).collect();
+    all.extend((0..names).map(|i| format!("n{i}")));
+    Tree::module(&all, items).to_bytes()
 }
 
 /// A module over the names u16, x and those of a number each.
@@ -144,7 +135,7 @@ fn locals(count: usize) -> Vec<u8> {
 
 fn nested(count: usize) -> Vec<u8> {
     let deep = |i: usize| (0..55).fold(literal("1", 10), |e, _| at(i as u32, record(42, &[0], vec![e])));
-    numbered(count, (0..count).map(|i| global_with(i as u32 + 2, named(0), deep(i))).collect())
+    oracle::hand::complete((0..count).map(|i| global_with(X, ty(U16), deep(i))).collect())
 }
 
 /// Every class. A name that ends in a number is one of a row of sizes.

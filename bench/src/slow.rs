@@ -2,16 +2,16 @@
 //! the file; and lists of fields and parameters, long ones and many short ones.
 
 use oracle::{
-    hand::{array, block, id, limits, over, pointer, record, void},
-    layout::{HEAD, MOST_BYTES},
+    hand::{array, block, id, limits, pointer, record, void},
+    layout::MOST_BYTES,
     tree::Tree,
 };
 
-use crate::modules::{Row, aliases, hash, named, numbered};
+use crate::modules::{Row, aliases, hash, named, numbered, over};
 
 /// The last of a row has as near 65,536 bytes as it goes, but for the casts of short chains, whose last is the longest that the reference
 /// ends on. In the last two rows all have: the numbers are those of fields or parameters.
-pub const ROWS: [Row; 23] = [
+pub const ROWS: [Row; 20] = [
     ("repeated fields", repeated_fields, &[204, 408, 817, 1_635]),
     ("paired fields", paired_fields, &[162, 324, 650, 1_300]),
     ("uses of an alias chain", chain_uses, &[61, 122, 245, 490]),
@@ -26,11 +26,8 @@ pub const ROWS: [Row; 23] = [
     ("a cast of short chains", one_cast, &[2, 4, 6, 8, 10]),
     ("internal aliases", internal_aliases, &[61, 122, 245, 490]),
     ("loops around blocks", loops, &[400, 800, 1_600, 3_200]),
-    ("rows past the index", limits::with_rows, &[770, 1_540, 3_080, 6_160]),
+    ("rows past the index", limits::with_rows, &[785, 1_570, 3_140, 6_280]),
     ("long names of one hash", long_names, &[255, 511, 1_023, 2_046]),
-    ("extern pairs", pairs, &[68, 136, 272, 544]),
-    ("a pair of long lists", one_pair, &[101, 203, 407, 815]),
-    ("duplicate globals", duplicates, &[204, 408, 817, 1_635]),
     ("one struct", one_struct, &[204, 408, 817, 1_635]),
     ("one function", one_function, &[204, 408, 817, 1_635]),
     ("fields a struct", structs, &[1, 2, 8, 32, 33]),
@@ -150,10 +147,9 @@ fn casts_of_chains(count: usize, casts: usize) -> Vec<u8> {
     items.extend(aliases(3 + count as u32, count, 1, 1));
     items.push(variable(2, named(lasts[0])));
     let casts = (0..casts).collect::<Vec<_>>();
-    // The variables have the names of aliases.
-    for (name, some) in (3..).zip(casts.chunks(60)) {
+    for some in casts.chunks(60) {
         let value = some.iter().fold(id(2), |e, i| record(38, &[0], vec![e, named(lasts[1 - i % 2])]));
-        items.push(record(83, &[name], vec![void(), value]));
+        items.push(record(83, &[0], vec![void(), value]));
     }
     over(&["u16", "bool", "x"], 2 * count, items)
 }
@@ -196,30 +192,6 @@ fn long_names(count: usize) -> Vec<u8> {
     Tree::module(&names, vec![]).to_bytes()
 }
 
-/// A function of a name without a body, or with an empty one, and so many parameters of type void.
-fn function(name: u32, parameters: usize, has_body: bool) -> Tree {
-    let mut tree = declared(parameters);
-    tree.fields[0] = name;
-    tree.children.extend(has_body.then(|| block(vec![])));
-    tree
-}
-
-/// So many extern functions, and one with a body for each.
-fn pairs(count: usize) -> Vec<u8> {
-    let of = |has_body| (0..count).map(move |i| function(n(i), 0, has_body));
-    numbered(count, of(false).chain(of(true)).collect())
-}
-
-/// An extern function of so many parameters, and one with a body.
-fn one_pair(count: usize) -> Vec<u8> {
-    numbered(0, vec![function(X, count, false), function(X, count, true)])
-}
-
-/// So many variables of one name.
-fn duplicates(count: usize) -> Vec<u8> {
-    numbered(0, vec![variable(X, void()); count])
-}
-
 /// One struct of so many fields.
 fn one_struct(count: usize) -> Vec<u8> {
     numbered(0, vec![variable(X, structure((0..count).map(|_| X)))])
@@ -230,19 +202,18 @@ fn one_function(count: usize) -> Vec<u8> {
     numbered(0, vec![declared(count)])
 }
 
-/// As many items of a size as a file has room for, each with a name of its own.
-fn filled(item: impl Fn(u32) -> Tree) -> Vec<u8> {
-    let longest_name = HEAD + "n9999".len();
-    let count = (MOST_BYTES - numbered(0, vec![]).len()) / (item(X).size() + longest_name);
-    numbered(count, (0..count).map(|i| item(n(i))).collect())
+/// As many of an item as a file has room for.
+fn filled(item: Tree) -> Vec<u8> {
+    let room = MOST_BYTES - numbered(0, vec![]).len();
+    numbered(0, vec![item.clone(); room / item.size()])
 }
 
 /// Structs of so many fields.
 fn structs(fields: usize) -> Vec<u8> {
-    filled(|name| variable(name, structure((0..fields).map(|_| X))))
+    filled(variable(X, structure((0..fields).map(|_| X))))
 }
 
 /// Functions of so many parameters.
 fn functions(parameters: usize) -> Vec<u8> {
-    filled(|name| function(name, parameters, false))
+    filled(declared(parameters))
 }

@@ -61,8 +61,6 @@ static const struct word {
     {"else", 73, 0, 0, 0, "true break", "", false}, {"break", 72, 0, 0, 0, "", "", true},
     {"function", 80, 1, F, 0, "", "", false}, {"global", 83, 1, X, 0, "", "", false},
     {"parameter", 85, 1, X, 0, "", "", false}, {"argument", 85, 1, X, 0, "void", "", true},
-    {"extern", 80, 1, F, 0, "void", "", true}, {"defined", 80, 1, F, 0, "void break", "", true},
-    {"variable", 83, 1, X, 0, "void", "", true},
 };
 
 /* A module: the words of its items, and how many rows and errors are expected. */
@@ -78,9 +76,6 @@ static const struct told {
     {"global void settings 800 set_text", 7, 801},
     {"global void settings 1600 set_text", 7, 1601},
     {"global void call f 2700 x", 7, 2},
-    /* Functions and variables of one name. */
-    {"extern defined", 8, 0}, {"extern 1000 defined", 8, 999},
-    {"1635 variable", 7, 1634},
     /* 64 levels of types. */
     {"global 61 pointer void", 68, 0}, {"global 61 array void", 68, 0},
     {"global 30 nested pointer void", 68, 0},

@@ -9,13 +9,10 @@ use crate::{
 pub const ERROR_WIDTH: usize = 8;
 
 /// How many kinds of errors there are; they are numbered from 1.
-pub const ERROR_KINDS: u32 = 30;
+pub const ERROR_KINDS: u32 = 29;
 
 /// The kind of the errors that literals are.
 pub const LITERAL_ERROR: u32 = 23;
-
-/// The kind of a later function or variable of a name (document 02, paper 2), which the reference does not have.
-pub const DUPLICATE_GLOBAL: u32 = 30;
 
 /// One error: kind, place in the source text, three operands, place in the file.
 #[derive(Clone, Copy, Debug, PartialEq, Eq)]
@@ -73,11 +70,6 @@ fn digest(text: &str) -> String {
 }
 
 impl Answer {
-    /// Whether some function or variable is a later one of its name and no pair with the first.
-    pub fn has_duplicates(&self) -> bool {
-        self.errors.iter().any(|error| error.kind == DUPLICATE_GLOBAL)
-    }
-
     /// The canonical text: counts, type rows sorted, slots in byte order, errors in order.
     pub fn text(&self) -> String {
         let texts = texts(&self.rows);

@@ -254,8 +254,14 @@ impl Attribution<'_> {
                     let name = item.fields[0];
                     let ty = self.early(&item.children[0], &names)?;
                     if self.may_store(item, &ty, stored.contains(&name)) {
-                        let alias = names.store(&self.decoder.name(name), ty, item.fields[1] == 1);
+                        let text = self.decoder.name(name);
+                        let inner = Box::new(ty);
+                        let alias = match item.fields[1] {
+                            1 => Type::DistinctAliased(inner, text.clone()),
+                            _ => Type::Aliased(inner, text.clone()),
+                        };
                         self.row(&alias)?;
+                        names.store(&text, alias);
                         stored.insert(name);
                     }
                 }

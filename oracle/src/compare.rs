@@ -16,7 +16,7 @@ use crate::{
     reference::{self, MOST_WORK, Silence},
     relate,
     rows::ROW_WIDTH,
-    shared, shrink,
+    shrink,
     stats::Stats,
     tell,
     tree::Random,
@@ -55,10 +55,6 @@ pub fn truth(bytes: &[u8]) -> Result<Truth, String> {
             None => (None, Some(spoken.messages)),
         },
         Err(Silence::Broken(why)) => return Err(format!("the reference is broken: {why}")),
-        // Where it finds equal types there is no such error, or the answers above differ.
-        Err(Silence::SharedNames) if !outcome.answer.has_duplicates() => {
-            return Err("the reference finds unequal types of one name, the model equal ones".to_owned());
-        }
         Err(silence) => (Some(silence), None),
     };
     let words_asked = relate::ask_words(&outcome.answer.rows)?;
@@ -189,19 +185,16 @@ struct Compare<'a> {
     modules: usize,
     by_hand: usize,
     refused: [usize; 8],
-    silent: [usize; 4],
+    silent: [usize; 3],
     /// How many modules the reference judged, by their items: none, one, up to four, five and more.
     judged: [usize; 4],
-    /// How many of them are files of no bytes, and how many have functions that share a name.
+    /// How many of them are files of no bytes.
     no_bytes: usize,
-    with_pairs: usize,
     /// For the words of how many types the reference was asked.
     words_asked: usize,
     casts: Casts,
     messages: Messages,
-    /// Modules in two orders, and how many of them have functions that share a name.
     orders: usize,
-    orders_with_pairs: usize,
     differences: usize,
 }
 
@@ -242,14 +235,12 @@ impl Compare<'_> {
         }
         match truth.silence {
             Some(Silence::Undecodable) => self.silent[0] += 1,
-            Some(Silence::SharedNames) => self.silent[1] += 1,
-            Some(Silence::TooLarge) => self.silent[2] += 1,
-            Some(_) => self.silent[3] += 1,
+            Some(Silence::TooLarge) => self.silent[1] += 1,
+            Some(_) => self.silent[2] += 1,
             None => {
                 if let Ok((module, _)) = &truth.outcome {
                     self.judged[[0, 1, 2, 2, 2, 3][module.items.len().min(5)]] += 1;
                     self.no_bytes += usize::from(bytes.is_empty());
-                    self.with_pairs += usize::from(shared::is_any(module));
                 }
             }
         }
@@ -287,7 +278,6 @@ impl Compare<'_> {
         let first = self.one(&bytes, &format!("order {seed}"), Lending::Drawn(seed));
         let second = self.one(&other, &format!("other order {seed}"), Lending::Drawn(seed));
         self.orders += 1;
-        self.orders_with_pairs += usize::from(layout::read(&bytes).is_ok_and(|module| shared::is_any(&module)));
         let why = match (&first, &second) {
             (Some(first), Some(second)) => orders::difference((&bytes, first), (&other, second)),
             (None, None) => None,
@@ -303,18 +293,15 @@ impl Compare<'_> {
         let [accepted, refused @ ..] = self.refused;
         let from_seed = self.modules - self.by_hand;
         let mut text = format!("modules by hand {}, from the seed {from_seed}", self.by_hand);
-        let _ = write!(text, ", of these in two orders {} ", 2 * self.orders);
-        let _ = writeln!(text, "(with extern pairs {})", 2 * self.orders_with_pairs);
+        let _ = writeln!(text, ", of these in two orders {}", 2 * self.orders);
         let numbers: Vec<String> = refused.iter().enumerate().map(|(i, count)| format!("{}: {count}", i + 1)).collect();
         let _ = writeln!(text, "accepted {accepted}, refused {}", numbers.join(", "));
         let [none, one, few, many] = self.judged;
         let _ = write!(text, "the reference judged {}: without items {none} ", none + one + few + many);
-        let _ = write!(text, "(no bytes {}), with 1 item {one}, 2 to 4 {few}, 5 or more {many}", self.no_bytes);
-        let _ = writeln!(text, "; with extern pairs {}", self.with_pairs);
+        let _ = writeln!(text, "(no bytes {}), with 1 item {one}, 2 to 4 {few}, 5 or more {many}", self.no_bytes);
         let _ = writeln!(text, "the reference was asked for the words of {} types", self.words_asked);
-        let [undecodable, shared, large, late] = self.silent;
-        let _ = write!(text, "the model alone: no UTF-8 {undecodable}, shared names that are no pairs {shared}, ");
-        let _ = writeln!(text, "too large {large}, timeout {late}");
+        let [undecodable, large, late] = self.silent;
+        let _ = writeln!(text, "the model alone: no UTF-8 {undecodable}, too large {large}, timeout {late}");
         text += &self.casts.text();
         if self.product.tells() {
             text += &self.messages.text();
@@ -375,15 +362,13 @@ pub fn compare(seed: u64, count: usize, program: &Path, folder: &Path) -> Result
         modules: 0,
         by_hand: 0,
         refused: [0; 8],
-        silent: [0; 4],
+        silent: [0; 3],
         judged: [0; 4],
         no_bytes: 0,
-        with_pairs: 0,
         words_asked: 0,
         casts: Casts::default(),
         messages: Messages::default(),
         orders: 0,
-        orders_with_pairs: 0,
         differences: 0,
     };
     for case in hand::cases() {

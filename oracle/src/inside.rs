@@ -3,7 +3,7 @@
 
 use std::collections::HashMap;
 
-use super::{ModuleContext, Type, TypeError, convert_node_type, get_primitive_type};
+use super::{ModuleContext, Type, TypeError, convert_node_type};
 use crate::{node, source::SourceLocation};
 
 /// The module-level names during pass 1.
@@ -15,17 +15,9 @@ impl Names {
         Names(ModuleContext { globals: HashMap::new(), type_aliases: HashMap::new() })
     }
 
-    /// Stores an alias of a type; the type that it is.
-    pub fn store(&mut self, name: &str, of: Type, is_distinct: bool) -> Type {
-        let sort = if is_distinct { Type::DistinctAliased } else { Type::Aliased };
-        let ty = sort(Box::new(of), name.to_owned());
-        self.0.type_aliases.insert(name.to_owned(), ty.clone());
-        ty
-    }
-
-    /// Whether a name is a stored alias's or a built-in type's.
-    pub fn is_known(&self, name: &str) -> bool {
-        self.0.type_aliases.contains_key(name) || get_primitive_type(name).is_some()
+    /// Stores an alias.
+    pub fn store(&mut self, name: &str, ty: Type) {
+        self.0.type_aliases.insert(name.to_owned(), ty);
     }
 
     /// What the reference makes of a declared type with the aliases stored so far.

@@ -60,11 +60,6 @@ impl Record {
     pub fn slot(&self) -> usize {
         self.place + HEAD
     }
-
-    /// The body of a function; an extern one has none.
-    pub fn body(&self) -> Option<&Record> {
-        self.children.last().filter(|last| Allowed::Statement.has(last.kind))
-    }
 }
 
 /// A set of record kinds that may stand at one place.
@@ -248,7 +243,8 @@ impl Walk<'_> {
             }
             Rest::Perhaps(_, allowed) if place < end => place = self.child(record, place, end, depth, allowed)?,
             Rest::Function => {
-                while place < end && record.body().is_none() {
+                let has_body = |record: &Record| Allowed::Statement.has(record.children.last().unwrap().kind);
+                while place < end && !has_body(record) {
                     place = self.child(record, place, end, depth, Allowed::ParameterOrStatement)?;
                 }
             }

@@ -42,7 +42,6 @@ pub mod relate;
 pub mod relations;
 pub mod replay;
 pub mod rows;
-pub mod shared;
 pub mod shrink;
 pub mod shuffle;
 pub mod stats;

@@ -327,8 +327,7 @@ fn replayed(accepted: &str, refused: &str, told: &str, data: &str, names: &str) 
     write(names, (all.join("\n") + "\n").as_bytes())?;
     let good = checks.accepted + messages.told[0];
     println!("good {good} refused {} differ 0", checks.refused() + messages.refused());
-    let by_reference = format!("good {}, {} of them by the reference", checks.accepted, checks.judged);
-    eprintln!("checks: {by_reference}; refused {}; messages: {}", checks.refused(), messages.counts());
+    eprintln!("checks: good {} refused {}; messages: {}", checks.accepted, checks.refused(), messages.counts());
     Ok(ExitCode::SUCCESS)
 }
 

@@ -1,4 +1,4 @@
-//! The texts of errors, by kind, and what each prints: the reference's own and, of kind 30, document 02's.
+//! The texts of the reference's errors, by kind, and what each prints.
 
 use crate::answer::{ERROR_KINDS, ERROR_WIDTH};
 
@@ -33,7 +33,6 @@ const TEXTS: [&str; ERROR_KINDS as usize] = [
     "target of struct compound assignment has no field named `{}`",
     "target of struct compound assignment cannot be `{}`",
     "struct compound assigns `{}` more than once",
-    "duplicate global `{}`",
 ];
 
 /// What is printed in the place of a `{}`.
@@ -68,7 +67,7 @@ const PLACE: usize = ERROR_WIDTH - 1;
 pub fn pieces(kind: u32) -> Vec<Piece> {
     use Sort::*;
     let of: &[(Sort, usize)] = match kind {
-        1 | 2 | 4..=7 | 10 | 27 | 29 | 30 => &[(Name, A)],
+        1 | 2 | 4..=7 | 10 | 27 | 29 => &[(Name, A)],
         3 => &[(Name, A), (BuiltIn, A), (Type, B)],
         8 => &[(Type, B), (Type, A)],
         9 | 13 | 14 | 16 | 17 | 19..=22 | 26 | 28 => &[(Type, A)],

@@ -5,7 +5,6 @@ use std::collections::HashSet;
 use crate::{
     answer::{Answer, Error, LITERAL_ERROR, Operand, texts},
     layout::{self, Module, Record},
-    model, shared,
     tree::Random,
 };
 
@@ -37,20 +36,24 @@ fn alias_names(module: &Module) -> HashSet<u32> {
     module.items.iter().filter(|item| is_stored_alias(item)).map(|item| item.fields[0]).collect()
 }
 
-/// Whether demand 3 speaks of a module in its order: no name declared twice, but for an extern function and one with a body whose types are
-/// equal in pass 1, and aliases before the items that name them.
+/// Whether demand 3 speaks of a module in its order: no name declared twice, aliases before the items that name them.
 pub fn is_supposed(module: &Module) -> bool {
     let all = alias_names(module);
-    let mut aliases = HashSet::new();
+    let (mut globals, mut aliases) = (HashSet::new(), HashSet::new());
     for item in &module.items {
         if needs(item, &all).iter().any(|name| !aliases.contains(name)) {
             return false;
         }
-        if is_stored_alias(item) && !aliases.insert(item.fields[0]) {
+        let fresh = match item.kind {
+            80 | 83 => globals.insert(item.fields[0]),
+            81 if is_stored_alias(item) => aliases.insert(item.fields[0]),
+            _ => true,
+        };
+        if !fresh {
             return false;
         }
     }
-    !shared::is_any(module) || !model::check(module).answer.has_duplicates()
+    true
 }
 
 /// Another order of the items that demand 3 speaks of, drawn from a seed; none if it does not speak of the module.

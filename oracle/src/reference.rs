@@ -6,7 +6,6 @@ use crate::{
     attribute::{self, Spoken},
     decode::Decoder,
     layout::Module,
-    shared,
     type_check::type_check_module,
 };
 
@@ -15,8 +14,6 @@ use crate::{
 pub enum Silence {
     /// Some free bytes are no UTF-8.
     Undecodable,
-    /// Functions or variables share a name and are no pair (document 02, paper 2).
-    SharedNames,
     /// The model foresees more work than the reference should be given.
     TooLarge,
     /// It did not answer in time.
@@ -29,7 +26,6 @@ impl fmt::Display for Silence {
     fn fmt(&self, f: &mut fmt::Formatter<'_>) -> fmt::Result {
         match self {
             Silence::Undecodable => write!(f, "undecodable"),
-            Silence::SharedNames => write!(f, "shared names"),
             Silence::TooLarge => write!(f, "too large"),
             Silence::Timeout => write!(f, "timeout"),
             Silence::Broken(why) => write!(f, "broken: {why}"),
@@ -63,9 +59,6 @@ pub fn check(module: &Module, limit: Duration) -> Result<Spoken, Silence> {
 fn run(module: &Module) -> Result<Spoken, Silence> {
     let decoder = Decoder::new(module).map_err(|_| Silence::Undecodable)?;
     let tree = decoder.module(module).map_err(|_| Silence::Undecodable)?;
-    if !shared::is_in_pairs(module, &decoder) {
-        return Err(Silence::SharedNames);
-    }
     let checked = type_check_module(tree);
     attribute::attribute(module, &decoder, checked).map_err(Silence::Broken)
 }

@@ -84,13 +84,14 @@ fn rows() {
     assert_eq!(both(&module(vec![alias(U16, 0, array(3, ty(U16)))])).rows.count(), 8);
     assert_eq!(both(&module(vec![alias(U16, 2, array(3, ty(U16)))])).rows.count(), 8);
     // A function type and two argument cells, the last shared by the second function.
-    let with = |name: u32, count: usize| {
+    let with = |count: usize| {
         let parameters = (0..count).map(|_| record(85, &[X], vec![ty(U16)]));
-        record(80, &[name], std::iter::once(void()).chain(parameters).collect())
+        record(80, &[F], std::iter::once(void()).chain(parameters).collect())
     };
-    assert_eq!(both(&module(vec![with(F, 2)])).rows.count(), 10);
-    assert_eq!(both(&module(vec![with(F, 2), with(X, 1)])).rows.count(), 11);
-    // Take pointer makes a row.
+    assert_eq!(both(&module(vec![with(2)])).rows.count(), 10);
+    assert_eq!(both(&module(vec![with(2), with(1)])).rows.count(), 11);
+    // Replaced globals count; take pointer makes a row.
+    assert_eq!(both(&module(vec![global(X, array(1, ty(U16))), global(X, array(2, ty(U16)))])).rows.count(), 9);
     assert_eq!(both(&module(vec![global_with(X, ty(U16), record(39, &[0], vec![id(Y)]))])).rows.count(), 8);
 }
 
@@ -199,14 +200,17 @@ fn through_aliases_or_not() {
     // A global's plain value is not compared, a compound is.
     assert_eq!(errors(vec![global_with(X, ty(U16), truth())]), []);
     assert_eq!(errors(vec![global_with(X, array(1, ty(U16)), record(48, &[], vec![truth()]))]), [8]);
+    // A later global of the same name replaces the earlier, for earlier items too.
+    let items = vec![global(X, ty(U16)), function(ty(BOOL), give(id(X))), global(X, ty(BOOL))];
+    assert_eq!(errors(items), []);
 }
 
 /// A distinct alias of bool that is named `*u16` is printed as the pointer is, for which each of these is in order: whose error it is, is not
 /// told by its text and place. An alias that is named `void` is no void.
 #[test]
 fn types_printed_alike() {
-    let names = ["u16", "bool", "*u16", "pointer", "alias", "takes", "body", "void", "other"].map(str::to_owned);
-    let [u16, bool, star, pointing, aliased, takes, body, void_name, other] = [0, 1, 2, 3, 4, 5, 6, 7, 8];
+    let names = ["u16", "bool", "*u16", "pointer", "alias", "takes", "body", "void"].map(str::to_owned);
+    let [u16, bool, star, pointing, aliased, takes, body, void_name] = [0, 1, 2, 3, 4, 5, 6, 7];
     let declared = || {
         let parameter = record(85, &[pointing], vec![pointer(ty(u16))]);
         vec![
@@ -233,8 +237,8 @@ fn types_printed_alike() {
         assert_eq!(said(items), [expected]);
     }
     let mut items = declared();
-    for (name, returned) in [(body, void()), (other, ty(void_name))] {
-        items.push(record(80, &[name], vec![returned, record(69, &[], vec![])]));
+    for returned in [void(), ty(void_name)] {
+        items.push(record(80, &[body], vec![returned, record(69, &[], vec![])]));
     }
     assert_eq!(said(items), ["9 0 0 0 (10 (3) 7) 0 0"]);
 }

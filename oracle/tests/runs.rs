@@ -6,7 +6,7 @@ use std::time::Duration;
 
 use oracle::{
     answer::ERROR_KINDS, buffers, compare, damage, generate, hand, layout, model, orders, pairs::Casts, reference,
-    relate, rows::ROW_WIDTH, shared, shrink, tables,
+    relate, rows::ROW_WIDTH, shrink, tables,
 };
 
 /// The reference panics where a type has no words.
@@ -28,7 +28,6 @@ fn compare_both(bytes: &[u8], label: &str) {
     }
     match reference::check(&module, Duration::from_secs(60)) {
         Ok(spoken) => assert_eq!(compare::difference(&module, &spoken, &outcome.answer), None, "{label}"),
-        Err(reference::Silence::SharedNames) => assert!(outcome.answer.has_duplicates(), "{label}"),
         Err(silence) => assert_eq!(silence, reference::Silence::Undecodable, "{label}"),
     }
 }
@@ -81,7 +80,7 @@ fn casts_of_modules() {
 
 #[test]
 fn another_order() {
-    let (mut compared, mut with_pairs) = (0, 0);
+    let mut compared = 0;
     for seed in 0..1_000 {
         let bytes = generate::module("mixed", seed);
         let Some(other) = orders::another_order(&bytes, seed) else { continue };
@@ -90,9 +89,8 @@ fn another_order() {
         let (first, second) = (model::check(&one).answer, model::check(&two).answer);
         assert_eq!(orders::difference((&bytes, &first), (&other, &second)), None, "{seed}");
         compared += usize::from(other != bytes);
-        with_pairs += usize::from(other != bytes && shared::is_any(&one));
     }
-    assert!(compared > 100 && with_pairs > 50, "only {compared} modules could be compared, {with_pairs} with pairs");
+    assert!(compared > 100, "only {compared} modules could be compared");
 }
 
 #[test]
@@ -132,10 +130,6 @@ fn silence() {
     let module = layout::read(&bytes).unwrap();
     assert_eq!(reference::check(&module, Duration::from_secs(9)).unwrap_err(), reference::Silence::Undecodable);
     assert_eq!(model::check(&module).answer.report(7, 0), "rows 7 errors 0\n");
-
-    let module = layout::read(&common::module(vec![common::global(common::X, common::void()); 2])).unwrap();
-    assert_eq!(reference::check(&module, Duration::from_secs(9)).unwrap_err(), reference::Silence::SharedNames);
-    assert_eq!(model::check(&module).answer.report(7, 1), "rows 7 errors 1\n30 0 0 0\n");
 }
 
 #[test]

@@ -164,8 +164,6 @@ fn texts_of_each_kind() {
         (27, [5, 0, 0], "target of struct compound assignment has no field named `x`"),
         (28, [3, 0, 0], "target of struct compound assignment cannot be `bool`"),
         (29, [5, 0, 0], "struct compound assigns `x` more than once"),
-        (30, [5, 0, 0], "duplicate global `x`"),
-        (30, [6, 0, 0], "duplicate global ``"),
     ];
     for (kind, operands, text) in texts {
         assert_eq!(told(&question(&[error(kind, operands)])), Ok(format!("{text}\n")), "kind {kind}");
@@ -343,9 +341,7 @@ fn cases_of_the_program() {
     let (mut place, mut count, mut told) = (0, 0, [0; 10]);
     while place < cases.bytes.len() {
         let head: Vec<usize> = (0..13).map(|i| word(place + 4 * i)).collect();
-        let [total, 1, module, rows, _, errors, _, built_in, _, lent, number, length, text] = head[..] else {
-            panic!()
-        };
+        let [total, 1, module, rows, _, errors, _, built_in, _, lent, number, length, text] = head[..] else { panic!() };
         assert_eq!(total, 52 + module + 4 * rows + 4 * errors + built_in + text);
         assert!(text <= lent && if number == 0 { text == length } else { text == 0 });
         told[number] += 1;

@@ -210,10 +210,9 @@ fn kinds() {
         (error(27, [X, 0, 0]), "target of struct compound assignment has no field named `x`"),
         (error(28, [BOOL, 0, 0]), "target of struct compound assignment cannot be `bool`"),
         (error(29, [X, 0, 0]), "struct compound assigns `x` more than once"),
-        (error(30, [X, 0, 0]), "duplicate global `x`"),
     ];
     let errors: Vec<Error> = texts.iter().map(|text| text.0).collect();
-    assert!(errors.iter().map(|error| error[0]).eq(1..=30));
+    assert!(errors.iter().map(|error| error[0]).eq(1..=29));
     let lines: String = texts.iter().map(|text| format!("{}\n", text.1)).collect();
     let question = Question { text: 4000, ..of(&errors) };
     assert_eq!(question.text(), Ok(lines));
@@ -259,7 +258,7 @@ fn any_bytes() {
 /// The words of an error that its message reads: names, type rows, numbers, the operator, the place.
 fn read_words(kind: u32) -> Vec<(usize, char)> {
     let words: &[(usize, char)] = match kind {
-        1 | 2 | 4..=7 | 10 | 27 | 29 | 30 => &[(4, 'n')],
+        1 | 2 | 4..=7 | 10 | 27 | 29 => &[(4, 'n')],
         3 => &[(4, 'b'), (5, 't')],
         8 | 15 => &[(4, 't'), (5, 't')],
         11 | 25 => &[(4, 'd'), (5, 'd')],
@@ -297,7 +296,7 @@ fn errors_that_name_nothing() {
     let no_operators = [0, 10, 257, u32::MAX];
     let place = literal_place();
     let no_literals = [0, 16, place - 1, place + 1, place + 24, place + 65536, input().len() as u32, u32::MAX];
-    for kind in 1..=30 {
+    for kind in 1..=29 {
         let words = readable(kind);
         let text = of(&[words]).text();
         assert!(text.is_ok(), "kind {kind}");
@@ -330,7 +329,7 @@ fn errors_that_name_nothing() {
             }
         }
     }
-    for kind in [0, 31, 32, 33, 257, 65537, u32::MAX] {
+    for kind in [0, 30, 33, 257, 65537, u32::MAX] {
         of(&[error(kind, [U16, U16, U16])]).unsound(&format!("kind {kind}"));
     }
 }
@@ -501,52 +500,6 @@ fn two_orders() {
     assert_eq!(seen[0].1, seen[1].1);
     assert_eq!(seen[0].2, seen[1].2);
     assert_eq!(seen[0].2[0], "integer literal '+' out of range");
-}
-
-/// What a check says of a module: the counts, the errors, and their messages. Twelve rows and four errors are lent.
-fn checked(names: &[&[u8]], items: &[&[u8]]) -> (Counts, Vec<Error>, String) {
-    let input = module(names, items);
-    let (mut output, mut rows) = (vec![0; input.len()], vec![0; 12 * ROW_WORDS]);
-    let (mut errors, mut work) = (vec![0; 4 * ERROR_WORDS], vec![0; 4 * names.len()]);
-    let counts = type_check_module(&input, &mut output, &mut rows, &mut errors, &mut work).unwrap();
-    let used = errors[..counts.errors * ERROR_WORDS].chunks_exact(ERROR_WORDS);
-    let errors: Vec<Error> = used.map(|error| error.try_into().unwrap()).collect();
-    let text = ask(&input, &rows[..counts.rows as usize * ROW_WORDS], &errors).text().unwrap();
-    (counts, errors, text)
-}
-
-/// Two parts that declare the hour table: the later one is told, and the first is what a reader sees.
-#[test]
-fn two_hour_tables() {
-    let names: [&[u8]; 4] = [b"u16", b"hours", b"last", b"bool"];
-    let table = |size| record(83, &[1], &[&record(19, &[0, size], &[&named_type(0)])]);
-    // `last: bool = hours();`, which tells what hours is.
-    let reader = record(83, &[2], &[&named_type(3), &record(36, &[0], &[&record(32, &[0, 1], &[])])]);
-    for (one, two) in [(24, 25), (25, 24), (24, 24)] {
-        let (counts, errors, text) = checked(&names, &[&table(one), &table(two), &reader]);
-        assert_eq!(counts, Counts { rows: if one == two { 8 } else { 9 }, errors: 2 });
-        assert_eq!(errors[0], [30, 0, 0, 0, 1, 0, 0, 0]);
-        let called = format!("cannot call non-function value of type `[{one}]u16`\n");
-        assert_eq!(text, format!("duplicate global `hours`\n{called}"));
-    }
-}
-
-/// An extern function and one with a body are one function in both orders; a third is told, and one of another type.
-#[test]
-fn extern_pairs() {
-    let names: [&[u8]; 2] = [b"u16", b"f"];
-    let of_extern = record(80, &[1], &[&named_type(0)]);
-    let body = record(80, &[1], &[&named_type(0), &record(70, &[], &[&record(64, &[0], &[])])]);
-    let of_void = record(80, &[1], &[&record(17, &[0], &[])]);
-    for [one, two] in [[&of_extern, &body], [&body, &of_extern]] {
-        assert_eq!(checked(&names, &[one, two]), (Counts { rows: 8, errors: 0 }, vec![], String::new()));
-        for items in [[&one[..], &two, &one], [&one, &two, &two], [&one, &of_void, &two], [&one, &one, &two]] {
-            let (counts, errors, text) = checked(&names, &items);
-            let rows = if items.contains(&&of_void[..]) { 9 } else { 8 };
-            assert_eq!((counts, errors), (Counts { rows, errors: 1 }, vec![[30, 0, 0, 0, 1, 0, 0, 0]]));
-            assert_eq!(text, "duplicate global `f`\n");
-        }
-    }
 }
 
 /// So many structs behind the seven rows, each of the one before twice.

@@ -1,9 +1,8 @@
--- The names that a function declares, and the working words without them, or without any local or argument.
-use Rattle.std.specs.Prelude.{ℕ, ◌%◌, ◌≤◌, ◌<◌, ◌≡◌, Bool, false, ◌||◌, List, [], ◌∷◌, eqb, length, get_or, set}
+-- The names that a function declares, and the working words without them.
+use Rattle.std.specs.Prelude.{ℕ, Bool, false, ◌||◌, List, [], ◌∷◌, eqb, set}
 use Rattle.std.proofs.Math.Option.{Option, none, some}
 use Rattle.trees.specs.Tree.{Parameter, Statement}
 use Rattle.meaning.specs.Statement.{declared_names}
-use Rattle.meaning.specs.Promise.{work_width}
 use Rattle.walk.specs.Words.{word_place}
 
 -- Those of a body, if there is one
@@ -25,9 +24,3 @@ is_one_of name (n ∷ names) = eqb name n || is_one_of name names
 unfoldable pub cleared_words : (which : ℕ) → (names work : List ℕ) → List ℕ
 cleared_words which [] work = work
 cleared_words which (n ∷ names) work = cleared_words which names (set work (word_place n which) 0)
-
--- The words of all locals and arguments are 0, the others as they were
-pub record LocalsCleared (work work' : List ℕ) : Type 0 where
-  pub wide : length work' ≡ length work
-  pub kept : (i : ℕ) → i % work_width < 2 → get_or work' i 0 ≡ get_or work i 0
-  pub zeros : (i : ℕ) → 2 ≤ i % work_width → get_or work' i 0 ≡ 0

@@ -1,4 +1,4 @@
-// Clears the working words of locals and arguments: those of the names that a function declares, or all.
+// Clears the working words of the names that a function declares, and no others.
 ghost use Rattle.std.specs.Prelude.{◌*◌, ◌≤◌, ◌≡◌, length};
 ghost use Rattle.contract.specs.Moments.{old, final};
 ghost use Rattle.shape.specs.Shape.{a_statement};
@@ -8,7 +8,7 @@ ghost use Rattle.node.specs.Fine.{FineNode, FineNodes};
 ghost use Rattle.trees.specs.Record.{statement_at, statements_at, parameters_at};
 ghost use Rattle.meaning.specs.Statement.{declared_names};
 ghost use Rattle.meaning.specs.Promise.{work_width};
-ghost use Rattle.clear_locals.specs.Cleared.{parameter_names, cleared_words, LocalsCleared};
+ghost use Rattle.clear_locals.specs.Cleared.{parameter_names, cleared_words};
 
 use divergence::inner_statements;
 use node::{Node, Nodes, children};
@@ -67,20 +67,5 @@ fn clear_block(s: &[u8], statements: Nodes, work: &mut [u32])
         let node = Node { at, depth };
         clear_statement(s, node, work);
         at = at + length_at(s, at);
-    }
-}
-
-// Clears the words of locals and arguments of all names, which stand side by side.
-pub fn clear_all_locals(work: &mut [u32])
-    ensures { LocalsCleared (old work) (final work) }
-{
-    let mut i = walk::LOCAL;
-    while i + 1 < work.len() {
-        work[i] = 0;
-        work[i + 1] = 0;
-        i += walk::WORK_WIDTH;
-    }
-    if i < work.len() {
-        work[i] = 0;
     }
 }

@@ -16,16 +16,13 @@ ghost use Rattle.walk.specs.Moments.{given, before, after};
 ghost use Rattle.walk.specs.Cells.{CellsMade, CellsOk};
 ghost use Rattle.declare.specs.Chunk.{chunk, argument_cell, HasParameter, ParametersChunk};
 ghost use Rattle.declare.specs.Declare.{alias_row};
-ghost use Rattle.globals.specs.Post.{NamesOne};
-ghost use Rattle.declare.specs.Post.{ParameterEnd, ConvertedParameters, ConvertedFunction};
-ghost use Rattle.declare.specs.Post.{InternalCompared, AliasStored, DeclaredNode, DeclaredNodes, DeclaredModule};
+ghost use Rattle.declare.specs.Post.{NamesOne, ParameterEnd, ConvertedParameters, ConvertedFunction};
+ghost use Rattle.declare.specs.Post.{InternalCompared, AliasStored, DeclaredNode, DeclaredNodes};
 
-use clear_locals::clear_all_locals;
 use convert::{Chunk, Pass, convert_node_type};
 use fallible::kinds::{
     ALIAS_OF_BUILT_IN, DUPLICATE_ALIAS, INTERNAL_MISMATCH, NO_BUILT_IN_FOR_INTERNAL,
 };
-use globals::{enter_function, enter_variable, has_body};
 use names::BuiltIns;
 use node::{Node, Nodes};
 use record_bytes::{FIELD_END, FIELDS_END, HEAD_END, KIND, half, length_at, word};
@@ -221,7 +218,7 @@ fn function_type(
     walk::make(rows, index, last, row)
 }
 
-// A function is a global of its type, unless its name is taken and it is no pair.
+// A function is a global of its type.
 fn declare_function(
     s: &[u8],
     names: BuiltIns,
@@ -241,12 +238,12 @@ fn declare_function(
         (after work output errors rows index result) }
 {
     let function = function_type(s, names, work, node, output, errors, rows, index, state);
-    let body = has_body(s, node);
-    let next = function.state;
-    enter_function(s, work, node.at, function.ty, body, errors, next)
+    let name = word(s, node.at + HEAD_END);
+    walk::set_word(work, name, walk::GLOBAL, function.ty);
+    function.state
 }
 
-// A variable is a global of the type that it is declared with, unless its name is taken.
+// A variable is a global of the type that it is declared with.
 fn declare_variable(
     s: &[u8],
     names: BuiltIns,
@@ -270,8 +267,9 @@ fn declare_variable(
     let inner = Node { at, depth };
     let pass = Pass { names, fill: false };
     let variable = convert_node_type(s, pass, work, inner, output, errors, rows, index, state);
-    let next = variable.state;
-    enter_variable(s, work, node.at, variable.ty, errors, next)
+    let name = word(s, node.at + HEAD_END);
+    walk::set_word(work, name, walk::GLOBAL, variable.ty);
+    variable.state
 }
 
 // An internal alias is compared with the built-in type of its name, and not stored.
@@ -418,8 +416,8 @@ fn declare_item(
     }
 }
 
-// Items, in order: each with the aliases stored so far.
-fn declare_items(
+// Pass 1 over items, in order: each with the aliases stored so far.
+pub fn declare_items(
     s: &[u8],
     names: BuiltIns,
     work: &mut [u32],
@@ -444,29 +442,5 @@ fn declare_items(
         last = declare_item(s, names, work, node, output, errors, rows, index, last);
         at += length_at(s, at);
     }
-    last
-}
-
-// Pass 1 over the items of a module. It begins with working words that are 0; in the end those of locals and arguments,
-// which held the unpaired functions, are 0 again.
-pub fn declare_module(
-    s: &[u8],
-    names: BuiltIns,
-    work: &mut [u32],
-    list: Nodes,
-    output: &mut [u8],
-    errors: &mut [u32],
-    rows: &mut [u32],
-    index: &mut [u16; row_index::LENGTH],
-    state: State,
-) -> State
-    requires fine_nodes { FineNodes s.now list Items }
-    requires ready { Ready s.now (given work output errors rows index state) }
-    ensures { DeclaredModule (old s) names list
-        (before work output errors rows index state)
-        (after work output errors rows index result) }
-{
-    let last = declare_items(s, names, work, list, output, errors, rows, index, state);
-    clear_all_locals(work);
     last
 }

@@ -46,7 +46,7 @@ line_past kind p =
 
 -- How many bytes the lines have
 abbrev pub lines_length : ℕ
-lines_length = 1314
+lines_length = 1293
 
 pub all_long : length all_lines ≡ lines_length
 unfolding lines_of all_lines

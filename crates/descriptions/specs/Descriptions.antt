@@ -1,5 +1,5 @@
--- The descriptions of errors, one a kind (document 02, paper 1): up to kind 29 the reference's, from 30 on those of document 02. In a description a
--- capital letter stands for what is printed in its place, every other byte for itself.
+-- The reference's descriptions of errors, one a kind (document 02, paper 1). In a description a capital letter stands for what is printed
+-- in its place, every other byte for itself.
 use Rattle.std.specs.Prelude.{ℕ, ◌+◌, ◌≤◌, ◌<◌, ◌≡◌, cond, List, [], ◌∷◌, ◌++◌, map, length, get_or, take, drop, eqb}
 use Prim.Native.Char.{Char, code}
 use Prim.Native.String.{String}
@@ -40,7 +40,6 @@ descriptions =
     ∷ "target of struct compound assignment has no field named `N`"
     ∷ "target of struct compound assignment cannot be `T`"
     ∷ "struct compound assigns `N` more than once"
-    ∷ "duplicate global `N`"  -- 30
     ∷ []
 
 -- "one line each, ended by byte 10"; an empty description has no line

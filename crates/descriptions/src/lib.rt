@@ -112,7 +112,7 @@ pub fn put_operator(text: &mut [u8], at: usize, operator: u32) -> usize
 }
 
 // The lines of all kinds, one after the other: the description of each, and a line feed. How many bytes they are.
-pub const LENGTH: usize = 1314;
+pub const LENGTH: usize = 1293;
 
 const LINES: [u8; LENGTH] = *b"unknown type `N`\n\
     no built-in type exists to match `internal` alias of `N`\n\
@@ -143,15 +143,14 @@ const LINES: [u8; LENGTH] = *b"unknown type `N`\n\
     target of struct compound assignment has no field named `N`\n\
     target of struct compound assignment cannot be `T`\n\
     #[derive(Drop)]
-    struct compound assigns `N` more than once\n\
-    duplicate global `N`\n";
+    struct compound assigns `N` more than once\n";
 
 // Where the line of each kind starts, from kind 0, which has none, and where the last ends; of how many kinds.
-const KINDS: usize = 31;
+const KINDS: usize = 30;
 
 const STARTS: [usize; KINDS + 1] = [
     0, 0, 17, 74, 137, 162, 208, 257, 292, 326, 358, 381, 427, 479, 522, 555, 578, 618, 651, 683,
-    728, 782, 855, 929, 962, 1016, 1089, 1139, 1199, 1250, 1293, 1314,
+    728, 782, 855, 929, 962, 1016, 1089, 1139, 1199, 1250, 1293,
 ];
 
 // Where the line of a kind stands among the lines.

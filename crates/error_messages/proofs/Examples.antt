@@ -1,20 +1,15 @@
--- The message of an error of each kind: up to kind 29 as the reference prints it. An error of a kind past the table is refused.
+-- The message of an error of each kind, as the reference prints it.
 use Prim.Native.Nat.{ℕ}
-use native.Mathlib.Omega.{arith}
-use mathlib.Core.Path.{◌≡◌, refl, ap}
-use mathlib.Core.Option.{none}
+use mathlib.Core.Path.{◌≡◌, refl}
 use mathlib.Core.List.{List, [], ◌∷◌, ◌++◌}
-use lib.ListN.{length}
 use Rattle.shape.specs.Shape.{shape_of, due_in}
 use Rattle.types.specs.Table.{fixed_words, unfolded, up_to}
 use Rattle.fallible.specs.Errors.{error_at, errors_from}
-use Rattle.fallible.specs.Outcome.{Outcome, refused}
 use Rattle.record_bytes.specs.Bytes.{word_at, half_at}
 use Rattle.trees.specs.Example.{head, word}
 use Rattle.names.specs.Names.{name_bytes, names_of, name_places, names_end, chain, stands, same_bytes}
 use Rattle.trees.specs.Record.{records_at, records_with}
-use Rattle.module_tests.specs.Refusal.{module_refusal}
-use Rattle.meaning.specs.Context.{each, All}
+use Rattle.meaning.specs.Context.{each}
 use Rattle.meaning.specs.Promise.{built_in_types}
 use Rattle.text.specs.Text.{ascii, decimal, decimal_with}
 use Rattle.listing.specs.Literals.{literals_in, literal_places, literal_text}
@@ -22,7 +17,7 @@ use Rattle.display.specs.Display.{type_text}
 use Rattle.display.specs.Names.{name_text}
 use Rattle.descriptions.specs.Descriptions.{line_of, lines_of, operator_text}
 use Rattle.error_messages.specs.Description.{Inputs, inputs, piece_text, description_of}
-use Rattle.error_messages.specs.Messages.{messages_of, Loan, Answered}
+use Rattle.error_messages.specs.Messages.{messages_of}
 
 -- Names ab, u16 and String, one global `ab: u16 = +70000`
 input : List ℕ
@@ -99,9 +94,8 @@ errors =
     ++ error 27 1 0 0 0
     ++ error 28 14 0 0 0
     ++ error 29 0 0 0 0
-    ++ error 30 0 0 0 0
 
-every_kind : messages_of example errors 32
+every_kind : messages_of example errors 31
     ≡ lines_of ("unknown type `ab`"
     ∷ "no built-in type exists to match `internal` alias of `ab`"
     ∷ "built-in type `u16` (u16) does not match `internal` definition (i16)"
@@ -133,23 +127,6 @@ every_kind : messages_of example errors 32
     ∷ "target of struct compound assignment has no field named `u16`"
     ∷ "target of struct compound assignment cannot be `[300]i16`"
     ∷ "struct compound assigns `ab` more than once"
-    ∷ "duplicate global `ab`"
     ∷ [])
 unfolding input rows example errors messages_of description_of piece_text line_of lines_of operator_text each errors_from error_at name_text type_text unfolded up_to decimal decimal_with name_bytes names_of name_places names_end chain stands same_bytes word_at half_at literal_text built_in_types
 every_kind = refl
-
--- Whatever keeps the promise of `messages` refuses an error of this kind with 8, of any module that passes tests 1 to 4
-abbrev Refused : (kind : ℕ) → Type 0
-Refused kind = (x : Inputs) → module_refusal x.input ≡ none → (before after : Loan) (answer : Outcome ℕ)
-    → Answered x (error kind 0 0 0 0) 1 before after answer → answer ≡ refused 8 0
-
--- So it does if the kind has no line
-no_line_refused : (kind : ℕ) → line_of kind ≡ [] → Refused kind
-unfolding errors_from error_at All
-no_line_refused kind none-of-it x passes before after answer kept =
-    (kept.unsound passes (λ sound. let l = ap length none-of-it in omega (arith, sound.readable.0.known))).0
-
--- There is no kind 0, and those past 30 are not in the table
-not_in_the_table : Refused 0 × Refused 31 × Refused 32 × Refused 33
-unfolding line_of
-not_in_the_table = (no_line_refused 0 refl, no_line_refused 31 refl, no_line_refused 32 refl, no_line_refused 33 refl)

@@ -13,8 +13,8 @@ use Rattle.fallible.specs.Operands.{error_kinds}
 use Rattle.fallible.specs.Errors.{error_width, error_words, error_of, error_word, error_at, errors_from, ErrorList, error_list, room, pushed, push_all, HoldsErrors}
 use Rattle.fallible.proofs.Stores.{get_d_sets_before, get_d_sets_after, get_d_sets_inside}
 
--- Document 01 has 29 kinds, paper 2 one more.
-kinds : length error_kinds ≡ 30
+-- Document 01 has 29 kinds.
+kinds : length error_kinds ≡ 29
 kinds = refl
 
 -- The words with one error written at a number.

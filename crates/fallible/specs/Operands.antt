@@ -9,7 +9,7 @@ pub data OperandSort : Type 0 where
   operator_operand : OperandSort
   unused : OperandSort
 
--- "Kinds in the Rust's messages", from kind 1: the operands that are used, in order. Kind 30 is document 02's, paper 2.
+-- "Kinds in the Rust's messages", from kind 1: the operands that are used, in order.
 abbrev pub error_kinds : List (List OperandSort)
 error_kinds =
     (name_operand ∷ []) ∷  -- 1: unknown type `NAME`
@@ -41,7 +41,6 @@ error_kinds =
     (name_operand ∷ []) ∷  -- 27: target of struct compound assignment has no field named `NAME`
     (type_operand ∷ []) ∷  -- 28: target of struct compound assignment cannot be `TYPE`
     (name_operand ∷ []) ∷  -- 29: struct compound assigns `NAME` more than once
-    (name_operand ∷ []) ∷  -- 30: duplicate global `NAME`
     []
 
 -- Kind 3, which tells of the built-in type of its name too, and kind 23, the one that has a place

@@ -1,4 +1,4 @@
-// The kinds of errors, in the order of document 01's list; from 30 on those of document 02.
+// The kinds of errors, in the order of document 01's list.
 // Unknown type.
 pub const UNKNOWN_TYPE: u32 = 1;
 
@@ -85,6 +85,3 @@ pub const NO_STRUCT_TARGET: u32 = 28;
 
 // A struct compound with a field twice.
 pub const FIELD_ASSIGNED_TWICE: u32 = 29;
-
-// A second function or variable of a name.
-pub const DUPLICATE_GLOBAL: u32 = 30;

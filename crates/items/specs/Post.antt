@@ -1,5 +1,5 @@
 -- What pass 2 promises, of an item and of all.
-use Rattle.std.specs.Prelude.{ℕ, ◌-◌, ◌≤◌, ◌<◌, ◌≡◌, true, List, ◌⊎◌, length, get_or}
+use Rattle.std.specs.Prelude.{ℕ, ◌-◌, ◌%◌, ◌≤◌, ◌<◌, ◌≡◌, true, List, ◌⊎◌, length, get_or}
 use Rattle.std.proofs.Math.Option.{Option, none, some}
 use Rattle.types.specs.Ty.{void}
 use Rattle.shape.specs.Kinds as kinds
@@ -16,6 +16,7 @@ use Rattle.meaning.specs.Context.{no_types, ModuleContext, Context, context, bla
 use Rattle.meaning.specs.Statement.{context_after}
 use Rattle.meaning.specs.Module.{parameter_errors, parameter_slots, argument_map, body_errors, body_slots, item_errors}
 use Rattle.meaning.specs.Module.{item_slots}
+use Rattle.meaning.specs.Promise.{work_width}
 use Rattle.walk.specs.Words.{word_place}
 use Rattle.walk.specs.Represents.{Lent, Scope}
 use Rattle.walk.specs.Post.{Walked}
@@ -75,6 +76,12 @@ CheckedBody s function body C C' =
     let left = body.left in
     BodyChecked s function.names (body_at s left.depth left.from left.end) body.at left.from left.end
     function.returned C C'
+
+-- The words of locals and arguments are 0, the others as they were
+pub record Cleared (work work' : List ℕ) : Type 0 where
+  pub wide : length work' ≡ length work
+  pub kept : (i : ℕ) → i % work_width < 2 → get_or work' i 0 ≡ get_or work i 0
+  pub zeros : (i : ℕ) → 2 ≤ i % work_width → get_or work' i 0 ≡ 0
 
 -- The words of a function's arguments and locals are cleared. Every word is 0 or as it was; those of globals and aliases are as they were
 pub record FunctionCleared (arguments locals work work' : List ℕ) : Type 0 where

@@ -14,10 +14,10 @@ ghost use Rattle.meaning.specs.Divergence.{do_all_paths_diverge};
 ghost use Rattle.meaning.specs.Promise.{work_width};
 ghost use Rattle.convert.specs.Post.{Ready};
 ghost use Rattle.walk.specs.Moments.{given, before, after};
-ghost use Rattle.items.specs.Post.{BodyLeft, NodesLeft, CheckedParameters, CheckedBody, ClearedFunction};
+ghost use Rattle.items.specs.Post.{BodyLeft, NodesLeft, CheckedParameters, CheckedBody, Cleared, ClearedFunction};
 ghost use Rattle.items.specs.Post.{ItemNodeChecked, ItemNodesChecked};
 
-use clear_locals::{clear_all_locals, clear_parameters, clear_statement};
+use clear_locals::{clear_parameters, clear_statement};
 use convert::{Pass, convert_node_type};
 use divergence::do_all_paths_diverge;
 use expression_rules::report_unless;
@@ -125,6 +125,21 @@ fn type_check_body(
     let holds = needs_no_return(s, node, function.returned);
     let kind = PATHS_WITHOUT_RETURN;
     report_unless(holds, s, body.at, kind, name, 0, 0, errors, next)
+}
+
+// Clears the words of locals and arguments of all names, which stand side by side.
+fn clear_all_locals(work: &mut [u32])
+    ensures { Cleared (old work) (final work) }
+{
+    let mut i = walk::LOCAL;
+    while i + 1 < work.len() {
+        work[i] = 0;
+        work[i + 1] = 0;
+        i += walk::WORK_WIDTH;
+    }
+    if i < work.len() {
+        work[i] = 0;
+    }
 }
 
 // Clears the words of a function's arguments and locals: its parameters, and the body at `body` after them.

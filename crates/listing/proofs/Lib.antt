@@ -1,4 +1,3 @@
 pub mod Naming
 pub mod Marking
 pub mod Marks
-pub mod Before

@@ -11,7 +11,7 @@ use Rattle.meaning.specs.Context.{TypeMap, Entry, entry, ModuleContext, type_nam
 use Rattle.meaning.specs.Convert.{slot, convert_node_type, conversion_errors, conversion_slots}
 use Rattle.meaning.specs.Module.{parameter_errors, argument_cells, alias_errors, is_stored, aliased, is_taken, alias_entries, global_entries, declaration_errors, slot_type, parameter_types, declared_types}
 use Rattle.meaning.proofs.Maps.{keys}
-use Rattle.meaning.specs.JoiningOrder.{named_in, named_in_parameter, names_in_declared_types, alias_name}
+use Rattle.meaning.specs.JoiningOrder.{named_in, named_in_parameter, names_in_declared_types, alias_name, global_name}
 
 -- What pass 1 takes from an item: its errors, the types that it converts, and what it stores
 pub record Declared : Type 0 where
@@ -135,7 +135,7 @@ free_declared ctx aliases (type_alias l name is_distinct false t) h =
 free_declared ctx aliases (global_declaration l name t value) h = refl
 free_declared ctx aliases other_item h = refl
 
--- An item stores an alias only under its own name
+-- An item stores an alias and a global only under its own name
 pub alias_keys : (ctx : ModuleContext) (taken : Bool) (item : Item) → Subset (keys (alias_entries ctx taken item)) (alias_name item)
 unfolding alias_entries alias_name
 alias_keys ctx taken (function_definition l n returned parameters body) name m = m
@@ -147,3 +147,10 @@ alias_keys ctx taken (type_alias l n is_distinct false t) name m = go (is_stored
     go false m = absurd (not-mem-nil m)
 alias_keys ctx taken (global_declaration l n t value) name m = m
 alias_keys ctx taken other_item name m = m
+
+pub global_keys : (ctx : ModuleContext) (item : Item) → Subset (keys (global_entries ctx item)) (global_name item)
+unfolding global_entries global_name
+global_keys ctx (function_definition l n returned parameters body) name m = m
+global_keys ctx (type_alias l n is_distinct internal t) name m = m
+global_keys ctx (global_declaration l n t value) name m = m
+global_keys ctx other_item name m = m

@@ -12,8 +12,8 @@ use Rattle.names.specs.Names.{item_places, item_bytes, items_of}
 use Rattle.trees.specs.Record.{item_tree}
 use Rattle.fallible.specs.Operands.{literal_kind}
 use Rattle.meaning.specs.TypeError.{TypeError, move_place}
-use Rattle.meaning.specs.Context.{each, All}
-use Rattle.meaning.specs.Module.{errors_in1, clashes, Pass1, declare, empty_pass1, declarations, declarations_in, module_errors, item_errors}
+use Rattle.meaning.specs.Context.{each, All, ModuleContext}
+use Rattle.meaning.specs.Module.{errors_in1, declare, empty_context, declarations, module_errors, item_errors, is_taken}
 use Rattle.meaning.specs.ItemStart.{place_in_item}
 use Rattle.meaning.specs.Promise.{trees_of, built_ins_of, context_of, errors_of, Buffers, Counts, Accepted, error_list_of, placed_item_errors, placed_errors_of, from_item}
 use Rattle.meaning.proofs.ItemStarts.{place_in_item_lem}
@@ -92,25 +92,23 @@ items_back input (p ∷ ps) f =
     ∙ ap₂ (λ (a b : List TypeError). a ++ b) (item_back input p (λ r h. f 0 r (omega arith) h)) (items_back input ps (λ i r h. f (suc i) r (omega arith)))
 
 -- Pass 1 has no literals
-declared_low : (p : Pass1) (bytes : List (List ℕ)) → Errors Free Free (λ place. place < 0) Free (each errors_in1 (declarations p (map item_tree bytes)))
+declared_low : (ctx : ModuleContext) (bytes : List (List ℕ)) → Errors Free Free (λ place. place < 0) Free (each errors_in1 (declarations ctx (map item_tree bytes)))
 unfolding each declarations
-declared_low p [] = nothing Free Free (λ place. place < 0) Free
-declared_low p (x ∷ l) =
+declared_low ctx [] = nothing Free Free (λ place. place < 0) Free
+declared_low ctx (x ∷ l) =
     let i = item_tree x in
     both Free Free (λ place. place < 0) Free
-    (in_pass_1 Free Free (λ place. place < 0) Free (record { item = i; met = p.types; clash = clashes p i }) (λ _ _. tt)
-    (literals_inside x).declared)
-    (declared_low (declare p i) l)
+    (in_pass_1 Free Free (λ place. place < 0) Free ctx (λ _ _. tt) (is_taken ctx.type_aliases i) i (literals_inside x).declared)
+    (declared_low (declare ctx i) l)
 
 -- The errors of a module
 pub from_item_lem : (input : List ℕ) → map (from_item input) (placed_errors_of input) ≡ errors_of input
 unfolding placed_errors_of errors_of module_errors items_of
 from_item_lem input =
-    let met = declarations_in (built_ins_of input) (trees_of input) in
+    let met = declarations (empty_context (built_ins_of input)) (trees_of input) in
     map-append (from_item input) (each errors_in1 met) (each (placed_item_errors input) (item_places input))
     ∙ ap₂ (λ (a b : List TypeError). a ++ b)
-    (all_unchanged (place_in_item input) 0 (λ r h. absurd (omega arith)) (each errors_in1 met)
-    (declared_low (empty_pass1 (built_ins_of input)) (items_of input)).all)
+    (all_unchanged (place_in_item input) 0 (λ r h. absurd (omega arith)) (each errors_in1 met) (declared_low (empty_context (built_ins_of input)) (items_of input)).all)
     (items_back input (item_places input) (λ i r. place_in_item_lem input i r))
 
 -- There are as many

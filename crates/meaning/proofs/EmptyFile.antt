@@ -2,7 +2,7 @@
 use Prim.Native.Nat.{ℕ, ◌+◌, ◌*◌, ◌≤◌, ◌<◌}
 use mathlib.Core.Path.{◌≡◌, refl, sym, ◌∙◌, ap, subst}
 use mathlib.Core.Bool.{Bool, true, false, ◌||◌}
-use mathlib.Core.List.{List, [], ◌∷◌, ◌++◌, Mem, Nodup, Nodup-nil, not-mem-nil}
+use mathlib.Core.List.{List, [], ◌∷◌, ◌++◌, Nodup, Nodup-nil}
 use mathlib.Core.Option.{none}
 use native.Mathlib.Omega.{arith}
 use lib.Dec.{ltb}
@@ -22,10 +22,10 @@ use Rattle.names.specs.Names.{stands, chain, names_end, name_places, names_of, n
 use Rattle.trees.specs.Example.{head}
 use Rattle.layout.proofs.LayoutLaws.{layout_short}
 use Rattle.meaning.specs.Context.{each}
-use Rattle.meaning.specs.Module.{declarations, declare_all, declarations_in, module_errors, types_met, needed_types}
-use Rattle.meaning.specs.Promise.{work_width, trees_of, built_ins_of, errors_of, types_of, Counts, counts_of, Buffers, Lengths, lengths_of, refuse_if, tests, answer_of, cleared}
+use Rattle.meaning.specs.Module.{declarations, declare_all, module_errors, types_met, needed_types}
+use Rattle.meaning.specs.Promise.{work_width, trees_of, errors_of, types_of, Counts, counts_of, Buffers, Lengths, lengths_of, refuse_if, tests, answer_of, cleared}
 use Rattle.meaning.specs.Promise.{Accepted, Checked}
-use Rattle.meaning.specs.JoiningOrder.{Supposed, extern_name, body_name, alias_name}
+use Rattle.meaning.specs.JoiningOrder.{Supposed, global_name, alias_name}
 use Rattle.meaning.specs.EmptyFile.{seven_rows, with_fixed_rows, with_zeros, EmptyFile, ShortFile}
 use Rattle.meaning.proofs.Cleared.{cleared_all}
 
@@ -113,13 +113,11 @@ ten_bytes : Lengths
 ten_bytes = record { output = 10; rows = fixed_length; errors = 0; work = 0 }
 
 nothing_supposed : (m : List ℕ) → layout_of m ≡ Good → trees_of m ≡ [] → Supposed m
-unfolding each declarations
+unfolding each
 nothing_supposed m l e =
     record {
       layout = l;
-      externs = subst (λ ts. Nodup (each extern_name ts)) (sym e) Nodup-nil;
-      bodies = subst (λ ts. Nodup (each body_name ts)) (sym e) Nodup-nil;
-      pairs = λ d f p. absurd (not-mem-nil (subst (λ ts. Mem d (declarations_in (built_ins_of m) ts)) e p));
+      globals = subst (λ ts. Nodup (each global_name ts)) (sym e) Nodup-nil;
       aliases = subst (λ ts. Nodup (each alias_name ts)) (sym e) Nodup-nil;
       precedes = λ i j name p q named m. absurd (omega (arith, p, ap length e));
     }

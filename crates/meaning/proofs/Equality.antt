@@ -1,7 +1,6 @@
 -- The tests of equality decide it, and counts that use them do not depend on the order of a list.
 use Prim.Native.Nat.{ℕ, suc}
-use mathlib.Core.Path.{◌≡◌, refl, sym, ◌∙◌, ap, ap₂}
-use mathlib.Core.HLevel.{hedberg}
+use mathlib.Core.Path.{◌≡◌, refl, sym, ap, ap₂}
 use mathlib.Core.Bool.{Bool, true, false, cond, ◌||◌, true≢false}
 use mathlib.Core.List.{List, ◌∷◌, Permᴰ}
 use lib.Dec.{eqb}
@@ -59,14 +58,6 @@ error_sound e f h =
 
 pub error_equal : DecidesEqual same_error
 error_equal = record { reflexive = error_reflexive; sound = error_sound }
-
--- Types: equality of two of them is a proposition
-pub types_set : IsSet Ty
-types_set = hedberg (λ t u. go t u (same t u) refl)
-  where
-    go : (t u : Ty) (x : Bool) → same t u ≡ x → Dec (t ≡ u)
-    go t u true e = yes (same_true t u e)
-    go t u false e = no (λ f. true≢false (sym (same_refl u) ∙ ap (λ s. same s u) (sym f) ∙ e))
 
 -- Types: membership and the count of different members
 or_swap : (x y z : Bool) → (x || (y || z)) ≡ (y || (x || z))

@@ -16,14 +16,14 @@ use Rattle.types.specs.Ty.{Ty, end, node, is, is_integral, desugar, first_of, se
 use Rattle.fallible.specs.Operands.{error_kinds, operand_sort, literal_kind, mismatch_kind}
 use Rattle.trees.specs.Tree.{Location, TypeNode, name_type, void_type, pointer_type, array_type, struct_type, no_fields, field_then, Parameter, Expression, identifier, integer, boolean, string_literal, call, index, cast, pointer_take, pointer_dereference, field_access, bitwise_not, boolean_not, boolean_and, arithmetic_bin_op, comparison_bin_op, sizeof, no_expressions, expression_then}
 use Rattle.trees.specs.Tree.{CompoundField, Compound, array_compound, struct_compound, InitialValue, no_value, assigned, compounded, Statement, block, expression, variable_declaration, assignment, compound_assignment, return, loop, while, break, «if», if_else, inline_assembly, no_statements, statement_then, Item, function_definition, type_alias, global_declaration, other_item}
-use Rattle.meaning.specs.TypeError.{TypeError, unless, unknown_type, no_built_in_for_internal, internal_mismatch, duplicate_alias, alias_of_built_in, paths_without_return, local_redefined, return_needs_value, unknown_identifier, argument_count, invalid_argument, not_callable, invalid_index, invalid_cast, not_a_pointer, no_fields as noFieldsError, no_such_field, not_integral, not_boolean, left_not_boolean, right_not_boolean, literal_out_of_range, invalid_operands, not_assignable, compound_length, array_compound_target, no_such_compound_field, struct_compound_target, field_twice, duplicate_global}
+use Rattle.meaning.specs.TypeError.{TypeError, unless, unknown_type, no_built_in_for_internal, internal_mismatch, duplicate_alias, alias_of_built_in, paths_without_return, local_redefined, return_needs_value, unknown_identifier, argument_count, invalid_argument, not_callable, invalid_index, invalid_cast, not_a_pointer, no_fields as noFieldsError, no_such_field, not_integral, not_boolean, left_not_boolean, right_not_boolean, literal_out_of_range, invalid_operands, not_assignable, compound_length, array_compound_target, no_such_compound_field, struct_compound_target, field_twice}
 use Rattle.meaning.specs.Context.{each, All, ModuleContext, Context, context, blank, is_some, type_named, resolve_identifier}
 use Rattle.meaning.specs.Convert.{convert_node_type, conversion_errors}
 use Rattle.meaning.specs.Expression.{location_of, expression_type, expression_errors, check_assignable, argument_errors, call_errors, field_errors, comparison_operator, field_type, computes, arithmetic_errors}
 use Rattle.meaning.specs.Compound.{element_errors, field_fits, occurrences, compound_errors, initial_errors, global_initial_errors}
 use Rattle.meaning.specs.Statement.{is_local, declare_local, context_after, condition_errors, statement_errors}
 use Rattle.meaning.specs.Divergence.{do_all_paths_diverge}
-use Rattle.meaning.specs.Module.{parameter_errors, function_context, body_errors, item_errors, alias_errors, declaration_errors, is_taken, clash_errors, Declaration, errors_in1}
+use Rattle.meaning.specs.Module.{parameter_errors, function_context, body_errors, item_errors, alias_errors, declaration_errors}
 use Rattle.meaning.specs.Words.{OperandOf, ErrorOf}
 use Rattle.meaning.proofs.Members.{all_join, all_each}
 use Rattle.meaning.proofs.TreeWords.{InType, InParameter, InDeclaration, InExpression, InCompoundField, InCompound, InValue, InOptional, InStatement, InBody, InCode, InItem}
@@ -240,7 +240,7 @@ module _ (N O L B : ℕ → Type 0) where
         three (parameters ctx ps d.1.1) (conversion ctx returned d.1.0) (body (function_context ctx returned ps) l name b d.0 h.code)
     in_pass_2 ctx (type_alias l name is_distinct internal t) h = conversion ctx t h.declared.1
     in_pass_2 ctx (global_declaration l name t value) h =
-        both (conversion ctx t h.declared.1) (global_initial (context ctx blank) (convert_node_type ctx t) value h.code)
+        both (conversion ctx t h.declared) (global_initial (context ctx blank) (convert_node_type ctx t) value h.code)
     in_pass_2 ctx other_item h = nothing
 
   -- Items in pass 1. Kind 3 is told where the name has a built-in type
@@ -257,21 +257,11 @@ module _ (N O L B : ℕ → Type 0) where
   aliases l name false false none t n b = nothing
   aliases l name false false (some u) t n b = single (told (alias_of_built_in l name) refl n tt tt)
 
-  declaration : (ctx : ModuleContext) → ((name : ℕ) → is_some (ctx.built_ins name) ≡ true → B name) → (taken : Bool) (i : Item) → InDeclaration N i
+  pub in_pass_1 : (ctx : ModuleContext) → ((name : ℕ) → is_some (ctx.built_ins name) ≡ true → B name) → (taken : Bool) (i : Item) → InDeclaration N i
       → Errors (declaration_errors ctx taken i)
   unfolding declaration_errors InDeclaration
-  declaration ctx b taken (function_definition l name returned ps body) h = both (conversion ctx returned h.1.0) (parameters ctx ps h.1.1)
-  declaration ctx b taken (type_alias l name is_distinct internal t) h =
+  in_pass_1 ctx b taken (function_definition l name returned ps body) h = both (conversion ctx returned h.1.0) (parameters ctx ps h.1.1)
+  in_pass_1 ctx b taken (type_alias l name is_distinct internal t) h =
       both (conversion ctx t h.1) (aliases l name internal taken (ctx.built_ins name) (convert_node_type ctx t) h.0 (b name))
-  declaration ctx b taken (global_declaration l name t value) h = conversion ctx t h.1
-  declaration ctx b taken other_item h = nothing
-
-  clash : (x : Bool) (i : Item) → InDeclaration N i → Errors (clash_errors x i)
-  unfolding clash_errors InDeclaration operand_sort
-  clash x (function_definition l name returned ps body) h = either x (single (told (duplicate_global l name) refl h.0 tt tt)) nothing
-  clash x (type_alias l name is_distinct internal t) h = nothing
-  clash x (global_declaration l name t value) h = either x (single (told (duplicate_global l name) refl h.0 tt tt)) nothing
-  clash x other_item h = nothing
-
-  pub in_pass_1 : (d : Declaration) → ((name : ℕ) → is_some (d.met.built_ins name) ≡ true → B name) → InDeclaration N d.item → Errors (errors_in1 d)
-  in_pass_1 d b h = both (declaration d.met b (is_taken d.met.type_aliases d.item) d.item h) (clash d.clash d.item h)
+  in_pass_1 ctx b taken (global_declaration l name t value) h = conversion ctx t h
+  in_pass_1 ctx b taken other_item h = nothing

@@ -6,8 +6,6 @@ pub mod Agree
 pub mod Places
 pub mod After
 pub mod Order
-pub mod NoClash
-pub mod TwoLists
 pub mod Size
 pub mod ItemStarts
 pub mod Passed
@@ -20,7 +18,6 @@ pub mod Inside
 pub mod Counted
 pub mod Cleared
 pub mod Whole
-pub mod Pairs
 pub mod Needed
 pub mod TwoOrders
 pub mod Examples

@@ -1,4 +1,4 @@
--- None of the suppositions of demand 3 can be left out: for each, two orders of a few items that go against it alone, and how their results differ.
+-- None of the three suppositions of demand 3 can be left out: for each, two orders of a few items that go against it alone, and how their results differ.
 use mathlib.Core.Path.{◌≡◌, refl}
 use mathlib.Core.Bool.{true, false, cond}
 use mathlib.Core.Option.{none, some}
@@ -10,8 +10,7 @@ use Rattle.meaning.specs.Context.{TypeMap, insert_all, each}
 use Rattle.meaning.specs.Convert.{convert_node_type, conversion_errors, conversion_slots}
 use Rattle.meaning.specs.Expression.{expression_type, expression_slots}
 use Rattle.meaning.specs.Compound.{global_initial_errors, initial_slots}
-use Rattle.meaning.specs.Module.{is_taken, alias_entries, global_entries, declaration_errors, clashes, clash_errors, declarations, declare_all, module_context, item_errors, item_slots, item_types, module_errors, error_count}
-use Rattle.meaning.proofs.Pairs.{extern, body, errors, duplicates}
+use Rattle.meaning.specs.Module.{is_taken, alias_entries, global_entries, declaration_errors, declarations, declare_all, module_context, item_errors, item_slots, item_types, module_errors, error_count}
 
 -- Names 8 and 9 are those of i16 and u16
 built_ins : TypeMap
@@ -43,24 +42,17 @@ of_x = global_declaration (location 0 0 6 1) 2 (name_type (location 0 0 6 2) 9) 
 
 -- An alias that does not precede the item that names it: one error more
 late_alias_lem : (error_count built_ins (transparent ∷ of_alias ∷ []) ≡ 0) × (error_count built_ins (of_alias ∷ transparent ∷ []) ≡ 1)
-unfolding built_ins transparent of_alias module_errors declarations declare_all each insert_all is_taken alias_entries global_entries declaration_errors convert_node_type conversion_errors item_errors global_initial_errors clashes clash_errors
+unfolding built_ins transparent of_alias module_errors declarations declare_all each insert_all is_taken alias_entries global_entries declaration_errors convert_node_type conversion_errors item_errors global_initial_errors
 late_alias_lem = (refl, refl)
 
 -- Two aliases of one name: the type of x is the first
 two_aliases : (item_types (module_context built_ins (transparent ∷ opaque ∷ of_alias ∷ [])) of_alias ≡ alias u16 0 ∷ [])
     × (item_types (module_context built_ins (opaque ∷ transparent ∷ of_alias ∷ [])) of_alias ≡ distinct u16 0 ∷ [])
-unfolding built_ins transparent opaque of_alias clashes declare_all insert_all is_taken alias_entries global_entries convert_node_type conversion_slots item_slots initial_slots
+unfolding built_ins transparent opaque of_alias declare_all insert_all is_taken alias_entries global_entries convert_node_type conversion_slots item_slots initial_slots
 two_aliases = (refl, refl)
 
--- Two variables of one name: the value of y is of the first one's type
-two_globals : (item_types (module_context built_ins (of_i16 ∷ of_u16 ∷ of_x ∷ [])) of_x ≡ u16 ∷ i16 ∷ [])
-    × (item_types (module_context built_ins (of_u16 ∷ of_i16 ∷ of_x ∷ [])) of_x ≡ u16 ∷ u16 ∷ [])
-unfolding built_ins of_i16 of_u16 of_x clashes declare_all insert_all is_taken alias_entries global_entries convert_node_type conversion_slots item_slots initial_slots expression_slots expression_type
+-- Two variables of one name: the value of y is of the later one's type
+two_globals : (item_types (module_context built_ins (of_i16 ∷ of_u16 ∷ of_x ∷ [])) of_x ≡ u16 ∷ u16 ∷ [])
+    × (item_types (module_context built_ins (of_u16 ∷ of_i16 ∷ of_x ∷ [])) of_x ≡ u16 ∷ i16 ∷ [])
+unfolding built_ins of_i16 of_u16 of_x declare_all insert_all is_taken alias_entries global_entries convert_node_type conversion_slots item_slots initial_slots expression_slots expression_type
 two_globals = (refl, refl)
-
--- Two extern functions of one name; two with a body; one of each, of other types: the error is the later one's
-two_functions : (errors (extern 1 0 ∷ extern 2 0 ∷ []) ≡ duplicates (2 ∷ [])) × (errors (extern 2 0 ∷ extern 1 0 ∷ []) ≡ duplicates (1 ∷ []))
-    × (errors (body 1 0 ∷ body 2 0 ∷ []) ≡ duplicates (2 ∷ [])) × (errors (body 2 0 ∷ body 1 0 ∷ []) ≡ duplicates (1 ∷ []))
-    × (errors (extern 1 0 ∷ body 2 1 ∷ []) ≡ duplicates (2 ∷ [])) × (errors (body 2 1 ∷ extern 1 0 ∷ []) ≡ duplicates (1 ∷ []))
-unfolding errors duplicates
-two_functions = (refl, refl, refl, refl, refl, refl)

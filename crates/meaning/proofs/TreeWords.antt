@@ -37,7 +37,7 @@ module _ (N : ℕ → Type 0) where
   unfoldable pub InDeclaration : Item → Type 0
   InDeclaration (function_definition l name returned parameters body) = N name × (InType returned × All InParameter parameters)
   InDeclaration (type_alias l name is_distinct internal t) = N name × InType t
-  InDeclaration (global_declaration l name t value) = N name × InType t
+  InDeclaration (global_declaration l name t value) = InType t
   InDeclaration other_item = Unit {0}
 
 -- Names, operators and the places of literals of the rest
@@ -320,8 +320,7 @@ module _ (N O L : ℕ → Type 0) where
       picked InItem (eqb h.kind kinds.function_definition)
       (λ e. record { declared = (first_field h c r kinds.function_definition e, (returned, parameters (next c) after)); code = body (next c) after })
       (picked InItem (eqb h.kind kinds.type_alias) (λ e. record { declared = (first_field h c r kinds.type_alias e, returned); code = tt })
-      (picked InItem (eqb h.kind kinds.global_declaration)
-      (λ e. record { declared = (first_field h c r kinds.global_declaration e, returned); code = value (next c) after })
+      (picked InItem (eqb h.kind kinds.global_declaration) (λ _. record { declared = returned; code = value (next c) after })
       (record { declared = tt; code = tt })))
 
   pub item : (r : Records) → InRecords r → InItem (to_item r)

@@ -19,7 +19,7 @@ use Rattle.meaning.specs.Convert.{Slot, convert_node_type, conversion_slots}
 use Rattle.meaning.specs.Expression.{part_of, field_type, expression_type, expression_slots}
 use Rattle.meaning.specs.Compound.{compound_slots, initial_slots}
 use Rattle.meaning.specs.Statement.{is_local, with_local, declare_local, context_after, statement_slots}
-use Rattle.meaning.specs.Module.{parameter_entry, parameter_slots, argument_cells, aliased, is_stored, is_taken, alias_entries, global_entries, slot_type, converted_types, parameter_types, declared_types, entry_type, declaration_types, clashes, Pass1, declare, function_context, body_slots, item_slots, item_types}
+use Rattle.meaning.specs.Module.{parameter_entry, parameter_slots, argument_cells, aliased, is_stored, is_taken, alias_entries, global_entries, slot_type, converted_types, parameter_types, declared_types, entry_type, declaration_types, declare, function_context, body_slots, item_slots, item_types}
 use Rattle.meaning.specs.Promise.{built_in_types}
 use Rattle.meaning.specs.Words.{NamesIn}
 use Rattle.meaning.proofs.Members.{all_join, all_each, all_mapped}
@@ -266,13 +266,16 @@ module _ (N : ℕ → Type 0) where
     globals_stored (function_definition l name returned ps body) h =
         (function_named (convert_node_type ctx returned) (argument_cells ctx ps) (converted returned h.1.0) (cells ps h.1.1), tt)
     globals_stored (type_alias l name is_distinct internal t) h = tt
-    globals_stored (global_declaration l name t value) h = (converted t h.1, tt)
+    globals_stored (global_declaration l name t value) h = (converted t h, tt)
     globals_stored other_item h = tt
 
-    in_force : (clash : Bool) (i : Item) → InDeclaration N i → All EntryNamed (cond clash [] (global_entries ctx i))
-    unfolding All
-    in_force true i h = tt
-    in_force false i h = globals_stored i h
+    pub declared : (i : Item) → InDeclaration N i → NamedModule (declare ctx i)
+    declared i h =
+        record {
+          built_ins = m.built_ins;
+          type_aliases = all_inserted (alias_entries ctx (is_taken ctx.type_aliases i) i) ctx.type_aliases (aliases (is_taken ctx.type_aliases i) i h) m.type_aliases;
+          globals = all_inserted (global_entries ctx i) ctx.globals (globals_stored i h) m.globals;
+        }
 
     -- and the types that it converts or stores
     declared_types_lem : (i : Item) → InDeclaration N i → All (NamesIn N) (declared_types ctx i)
@@ -280,7 +283,7 @@ module _ (N : ℕ → Type 0) where
     declared_types_lem (function_definition l name returned ps body) h =
         all_join (NamesIn N) (converted_types ctx returned) (each (parameter_types ctx) ps) (slot_types_lem (conversion returned h.1.0)) (parameter_types_lem ps h.1.1)
     declared_types_lem (type_alias l name is_distinct internal t) h = slot_types_lem (conversion t h.1)
-    declared_types_lem (global_declaration l name t value) h = slot_types_lem (conversion t h.1)
+    declared_types_lem (global_declaration l name t value) h = slot_types_lem (conversion t h)
     declared_types_lem other_item h = tt
 
     pub in_pass_1 : (taken : Bool) (i : Item) → InDeclaration N i → All (NamesIn N) (declaration_types ctx taken i)
@@ -288,16 +291,6 @@ module _ (N : ℕ → Type 0) where
         all_join (NamesIn N) (declared_types ctx i ++ map entry_type (alias_entries ctx taken i)) (map entry_type (global_entries ctx i))
         (all_join (NamesIn N) (declared_types ctx i) (map entry_type (alias_entries ctx taken i)) (declared_types_lem i h) (all_mapped (NamesIn N) EntryNamed entry_type (λ e h. h) (alias_entries ctx taken i) (aliases taken i h)))
         (all_mapped (NamesIn N) EntryNamed entry_type (λ e h. h) (global_entries ctx i) (globals_stored i h))
-
-  pub declared : (p : Pass1) → NamedModule p.types → (i : Item) → InDeclaration N i → NamedModule (declare p i).types
-  declared p m i h =
-      let ctx : ModuleContext = p.types in
-      let taken : Bool = is_taken ctx.type_aliases i in
-      record {
-        built_ins = m.built_ins;
-        type_aliases = all_inserted (alias_entries ctx taken i) ctx.type_aliases (aliases ctx m taken i h) m.type_aliases;
-        globals = all_inserted (cond (clashes p i) [] (global_entries ctx i)) ctx.globals (in_force ctx m (clashes p i) i h) m.globals;
-      }
 
 module _ (N O L : ℕ → Type 0) where
   -- Expressions
@@ -421,7 +414,7 @@ module _ (N O L : ℕ → Type 0) where
       three N (conversion N ctx m returned d.1.0) (parameters N ctx m ps d.1.1) (body (function_context ctx returned ps) (in_function_lem N ctx m returned ps d.1.1) b h.code)
   slots ctx m (type_alias l name is_distinct internal t) h = conversion N ctx m t h.declared.1
   slots ctx m (global_declaration l name t value) h =
-      both N (conversion N ctx m t h.declared.1) (initial (context ctx blank) (record { in_module = m; variables = λ name. tt; arguments = λ name. tt }) value h.code)
+      both N (conversion N ctx m t h.declared) (initial (context ctx blank) (record { in_module = m; variables = λ name. tt; arguments = λ name. tt }) value h.code)
   slots ctx m other_item h = nothing N
 
   pub in_pass_2 : (ctx : ModuleContext) → NamedModule N ctx → (i : Item) → InItem N O L i → All (NamesIn N) (item_types ctx i)

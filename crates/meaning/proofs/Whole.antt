@@ -24,7 +24,7 @@ use Rattle.meaning.proofs.Equality.{bytes_equal, distinct_permuted}
 use Rattle.meaning.proofs.Places.{precede}
 use Rattle.meaning.proofs.Size.{total_length, start_length, size, same_repeated}
 use Rattle.meaning.proofs.Counted.{counted}
-use Rattle.meaning.proofs.TwoLists.{SupposedItems, same_context, errors_permuted, types_permuted}
+use Rattle.meaning.proofs.Order.{SupposedItems, same_context, errors_permuted, types_permuted}
 
 total_permuted : {l r : List (List ℕ)} → Permᴰ l r → total_length l ≡ total_length r
 unfolding total_length
@@ -40,13 +40,8 @@ filled_alike {rows' = rows'} {output' = output'} {count' = count'} e t f g =
     let h = subst₂ (λ b u. ItemFilled rows' count' u b output') (sym e) (sym t) g in
     record { long = f.long ∙ sym h.long; others = λ i o. f.others i o ∙ sym (h.others i o); slots = f.slots ∙ sym h.slots }
 
-supposed_items : (m : List ℕ) → Supposed m → SupposedItems (built_ins_of m) (trees_of m)
-supposed_items m s =
-    record {
-      distinct = record { externs = s.externs; bodies = s.bodies; aliases = s.aliases };
-      pairs = s.pairs;
-      precede = precede (trees_of m) s.precedes;
-    }
+supposed_items : (m : List ℕ) → Supposed m → SupposedItems (trees_of m)
+supposed_items m s = record { distinct = record { globals = s.globals; aliases = s.aliases }; precede = precede (trees_of m) s.precedes }
 
 -- The meaning of two orders
 module _ (m k : List ℕ) (other : AnotherOrder m k) (sm : Supposed m) (sk : Supposed k) where
@@ -59,26 +54,22 @@ module _ (m k : List ℕ) (other : AnotherOrder m k) (sm : Supposed m) (sk : Sup
   same_built_ins : built_ins_of m ≡ built_ins_of k
   same_built_ins = ap built_in_types other.names
 
-  -- The second module's suppositions, with the built-in types of the first
-  second : SupposedItems (built_ins_of m) (trees_of k)
-  second = subst (λ (b : TypeMap). SupposedItems b (trees_of k)) (sym same_built_ins) (supposed_items k sk)
-
   contexts : context_of m ≡ context_of k
   contexts =
-      same_context (built_ins_of m) (trees_of m) (trees_of k) trees_permuted (supposed_items m sm) second
+      same_context (built_ins_of m) (trees_of m) (trees_of k) trees_permuted (supposed_items m sm) (supposed_items k sk)
       ∙ ap (λ (b : TypeMap). module_context b (trees_of k)) same_built_ins
 
   errors : Permᴰ (errors_of m) (errors_of k)
   unfolding errors_of
   errors =
       subst (λ (b : TypeMap). Permᴰ (errors_of m) (module_errors b (trees_of k))) same_built_ins
-      (errors_permuted (built_ins_of m) (trees_of m) (trees_of k) trees_permuted (supposed_items m sm) second)
+      (errors_permuted (built_ins_of m) (trees_of m) (trees_of k) trees_permuted (supposed_items m sm) (supposed_items k sk))
 
   types : Permᴰ (types_of m) (types_of k)
   unfolding types_of
   types =
       subst (λ (b : TypeMap). Permᴰ (types_of m) (needed_types b (trees_of k))) same_built_ins
-      (types_permuted (built_ins_of m) (trees_of m) (trees_of k) trees_permuted (supposed_items m sm) second)
+      (types_permuted (built_ins_of m) (trees_of m) (trees_of k) trees_permuted (supposed_items m sm) (supposed_items k sk))
 
   lengths : length m ≡ length k
   lengths =

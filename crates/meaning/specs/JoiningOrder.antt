@@ -12,9 +12,8 @@ use Rattle.trees.specs.Record.{item_slot_places}
 use Rattle.trees.specs.Tree.{TypeNode, name_type, void_type, pointer_type, array_type, struct_type, no_fields, field_then}
 use Rattle.trees.specs.Tree.{Parameter, Item, function_definition, type_alias, global_declaration, other_item}
 use Rattle.meaning.specs.TypeError.{TypeError, Operand, plain, row}
-use Rattle.meaning.specs.Context.{Entry, each}
-use Rattle.meaning.specs.Module.{has_body, global_entries, Declaration, declarations_in}
-use Rattle.meaning.specs.Promise.{built_ins_of, Counts, Buffers, lengths_of, Checked, trees_of, item_at, output_at, item_count}
+use Rattle.meaning.specs.Context.{each}
+use Rattle.meaning.specs.Promise.{Counts, Buffers, lengths_of, Checked, trees_of, item_at, output_at, item_count}
 use Rattle.meaning.specs.Promise.{in_slot, slot_types, error_list_of, from_item}
 
 -- A run: what it was given, what it left and what it answered
@@ -60,18 +59,12 @@ names_in_declared_types (type_alias l name is_distinct internal t) = named_in t
 names_in_declared_types (global_declaration l name t value) = named_in t
 names_in_declared_types other_item = []
 
--- The name of an extern function, and of a function with a body. A variable has both, so that none shares its name
-unfoldable pub extern_name : Item → List ℕ
-extern_name (function_definition l name returned parameters body) = cond (has_body body) [] (name ∷ [])
-extern_name (type_alias l name is_distinct internal t) = []
-extern_name (global_declaration l name t value) = name ∷ []
-extern_name other_item = []
-
-unfoldable pub body_name : Item → List ℕ
-body_name (function_definition l name returned parameters body) = cond (has_body body) (name ∷ []) []
-body_name (type_alias l name is_distinct internal t) = []
-body_name (global_declaration l name t value) = name ∷ []
-body_name other_item = []
+-- The name of a function or a variable
+unfoldable pub global_name : Item → List ℕ
+global_name (function_definition l name returned parameters body) = name ∷ []
+global_name (type_alias l name is_distinct internal t) = []
+global_name (global_declaration l name t value) = name ∷ []
+global_name other_item = []
 
 -- The name of a non-internal alias
 unfoldable pub alias_name : Item → List ℕ
@@ -83,24 +76,12 @@ alias_name other_item = []
 abbrev pub tree_at : (input : List ℕ) → (i : ℕ) → Item
 tree_at input i = get_or (trees_of input) i other_item
 
--- Pass 1 of a module
-abbrev pub declarations_of : (input : List ℕ) → List Declaration
-declarations_of input = declarations_in (built_ins_of input) (trees_of input)
-
--- Entries that share a name are of one type
-abbrev pub OneType : (entries others : List Entry) → Type 0
-OneType entries others = (x y : Entry) → Mem x entries → Mem y others → x.name ≡ y.name → x.type ≡ y.type
-
 -- What demand 3 supposes of each of the two modules
 pub record Supposed (input : List ℕ) : Type 0 where
   -- it passes tests 1 to 3
   pub layout : layout_of input ≡ Good
-  -- no two functions or variables share a name, but for an extern function and one with a body,
-  pub externs : Nodup (each extern_name (trees_of input))
-  pub bodies : Nodup (each body_name (trees_of input))
-  -- whose types are equal in pass 1
-  pub pairs : (d e : Declaration) → Mem d (declarations_of input) → Mem e (declarations_of input)
-      → OneType (global_entries d.met d.item) (global_entries e.met e.item)
+  -- no two functions or variables share a name
+  pub globals : Nodup (each global_name (trees_of input))
   -- no two non-internal aliases do
   pub aliases : Nodup (each alias_name (trees_of input))
   -- every such alias (item j) precedes each item (i) whose declared types name it

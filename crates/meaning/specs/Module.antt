@@ -1,12 +1,12 @@
 -- `type_check_module`: pass 1 over the items' declared types, pass 2 over the items.
-use Rattle.std.specs.Prelude.{ℕ, Bool, true, false, cond, not, ◌&&◌, ◌||◌, List, [], ◌∷◌, ◌++◌, map, eqb, length}
+use Rattle.std.specs.Prelude.{ℕ, Bool, true, false, cond, ◌||◌, List, [], ◌∷◌, ◌++◌, map, length}
 use Rattle.std.proofs.Math.Option.{Option, none, some}
 use Rattle.types.specs.Ty.{Ty, end, void, function, argument, alias, distinct, same, remove_aliasing, parts, fixed_types}
 use Rattle.types.specs.Ty.{distinct_count}
 use Rattle.trees.specs.Tree.{Location, TypeNode, Statement, Parameter, Item, function_definition, type_alias}
 use Rattle.trees.specs.Tree.{global_declaration, other_item}
 use Rattle.meaning.specs.TypeError.{TypeError, unless, no_built_in_for_internal, internal_mismatch, duplicate_alias}
-use Rattle.meaning.specs.TypeError.{alias_of_built_in, paths_without_return, duplicate_global}
+use Rattle.meaning.specs.TypeError.{alias_of_built_in, paths_without_return}
 use Rattle.meaning.specs.Context.{TypeMap, no_types, is_some, Entry, entry, insert_all, each, ModuleContext, Context}
 use Rattle.meaning.specs.Context.{context, blank}
 use Rattle.meaning.specs.Convert.{Slot, convert_node_type, conversion_errors, conversion_slots}
@@ -27,10 +27,6 @@ parameter_slots ctx p = conversion_slots ctx p.type
 unfoldable pub argument_cells : ModuleContext → List Parameter → Ty
 argument_cells ctx [] = end
 argument_cells ctx (p ∷ ps) = argument (convert_node_type ctx p.type) (argument_cells ctx ps)
-
--- The type of a function
-abbrev pub function_type : ModuleContext → (returned : TypeNode) → List Parameter → Ty
-function_type ctx returned parameters = function (convert_node_type ctx returned) (argument_cells ctx parameters)
 
 -- Of equal parameters the last counts
 abbrev pub argument_map : ModuleContext → List Parameter → TypeMap
@@ -74,9 +70,9 @@ alias_entries ctx taken (type_alias l name is_distinct internal t) =
 alias_entries ctx taken (global_declaration l name t value) = []
 alias_entries ctx taken other_item = []
 
--- The global that an item declares, if any
+-- The global that an item stores, if any; a later one of the same name replaces the earlier
 unfoldable pub global_entries : ModuleContext → Item → List Entry
-global_entries ctx (function_definition l name returned parameters body) = entry name (function_type ctx returned parameters) ∷ []
+global_entries ctx (function_definition l name returned parameters body) = entry name (function (convert_node_type ctx returned) (argument_cells ctx parameters)) ∷ []
 global_entries ctx (type_alias l name is_distinct internal t) = []
 global_entries ctx (global_declaration l name t value) = entry name (convert_node_type ctx t) ∷ []
 global_entries ctx other_item = []
@@ -109,102 +105,42 @@ declared_types ctx other_item = []
 abbrev pub entry_type : Entry → Ty
 entry_type e = e.type
 
--- The types that pass 1 converts or declares, those of clashing items too
+-- The types that pass 1 converts or stores, replaced ones too
 abbrev pub declaration_types : ModuleContext → (taken : Bool) → Item → List Ty
 declaration_types ctx taken item = declared_types ctx item ++ map entry_type (alias_entries ctx taken item) ++ map entry_type (global_entries ctx item)
 
--- Document 02, paper 2: an extern function, which has no body, and one with a body may share a name if their types are equal. Any other function or
--- variable clashes with the first of its name
-abbrev pub has_body : (body : Option Statement) → Bool
-has_body none = false
-has_body (some s) = true
-
--- Pass 1 so far: what names stand for; and the functions that can still pair, those with a body and the extern ones, by name with their types
-pub record Pass1 : Type 0 where
-  pub types : ModuleContext
-  pub unpaired : (body : Bool) → TypeMap
-
--- A function pairs with one of the other sort that is of its type
-abbrev pub is_of_type : (unpaired : Option Ty) → Ty → Bool
-is_of_type none t = false
-is_of_type (some u) t = same u t
-
-unfoldable pub clashes : Pass1 → Item → Bool
-clashes p (function_definition l name returned parameters body) =
-    is_some (p.types.globals name) && not (is_of_type (p.unpaired (not (has_body body)) name) (function_type p.types returned parameters))
-clashes p (type_alias l name is_distinct internal t) = false
-clashes p (global_declaration l name t value) = is_some (p.types.globals name)
-clashes p other_item = false
-
--- A clashing item's error, after those of its declared types
-unfoldable pub clash_errors : (clash : Bool) → Item → List TypeError
-clash_errors clash (function_definition l name returned parameters body) = cond clash (duplicate_global l name ∷ []) []
-clash_errors clash (type_alias l name is_distinct internal t) = []
-clash_errors clash (global_declaration l name t value) = cond clash (duplicate_global l name ∷ []) []
-clash_errors clash other_item = []
-
--- The unpaired functions, with another entry, or none, for a name
-abbrev pub same_sort : (body body' : Bool) → Bool
-same_sort true body = body
-same_sort false body = not body
-
-abbrev pub with_unpaired : (body : Bool) → (name : ℕ) → Option Ty → (Bool → TypeMap) → Bool → TypeMap
-with_unpaired body name t unpaired body' name' = cond (same_sort body body' && eqb name' name) t (unpaired body' name')
-
--- The first function of a name can pair; the one that it pairs with ends that
-abbrev pub unpaired_with : (taken body : Bool) → (name : ℕ) → Ty → (Bool → TypeMap) → Bool → TypeMap
-unpaired_with false body name t unpaired = with_unpaired body name (some t) unpaired
-unpaired_with true body name t unpaired = with_unpaired (not body) name none unpaired
-
--- What clashes changes nothing
-unfoldable pub unpaired_after : Pass1 → (clash : Bool) → Item → Bool → TypeMap
-unpaired_after p clash (function_definition l name returned parameters body) =
-    cond clash p.unpaired (unpaired_with (is_some (p.types.globals name)) (has_body body) name (function_type p.types returned parameters) p.unpaired)
-unpaired_after p clash (type_alias l name is_distinct internal t) = p.unpaired
-unpaired_after p clash (global_declaration l name t value) = p.unpaired
-unpaired_after p clash other_item = p.unpaired
-
--- After an item. The first function or variable of a name stays in force; one that pairs with it is of its type
-abbrev pub declare : Pass1 → Item → Pass1
-declare p item =
-    let clash = clashes p item in
+-- The context after an item
+abbrev pub declare : ModuleContext → Item → ModuleContext
+declare ctx item =
     record {
-      types = record {
-        built_ins = p.types.built_ins;
-        type_aliases = insert_all (alias_entries p.types (is_taken p.types.type_aliases item) item) p.types.type_aliases;
-        globals = insert_all (cond clash [] (global_entries p.types item)) p.types.globals;
-      };
-      unpaired = unpaired_after p clash item;
+      built_ins = ctx.built_ins;
+      type_aliases = insert_all (alias_entries ctx (is_taken ctx.type_aliases item) item) ctx.type_aliases;
+      globals = insert_all (global_entries ctx item) ctx.globals;
     }
 
-unfoldable pub declare_all : Pass1 → List Item → Pass1
-declare_all p [] = p
-declare_all p (i ∷ is) = declare_all (declare p i) is
-
--- An item with the context that pass 1 meets it in, and whether it clashes there
+-- An item with the context that pass 1 meets it in
 pub record Declaration : Type 0 where
   pub item : Item
   pub met : ModuleContext
-  pub clash : Bool
 
-unfoldable pub declarations : Pass1 → List Item → List Declaration
-declarations p [] = []
-declarations p (i ∷ is) = record { item = i; met = p.types; clash = clashes p i } ∷ declarations (declare p i) is
+unfoldable pub declarations : ModuleContext → List Item → List Declaration
+declarations ctx [] = []
+declarations ctx (i ∷ is) = record { item = i; met = ctx } ∷ declarations (declare ctx i) is
 
--- At the start of pass 1 nothing is declared
-abbrev pub empty_pass1 : (built_ins : TypeMap) → Pass1
-empty_pass1 built_ins = record { types = record { built_ins = built_ins; type_aliases = no_types; globals = no_types }; unpaired = λ body. no_types }
+unfoldable pub declare_all : ModuleContext → List Item → ModuleContext
+declare_all ctx [] = ctx
+declare_all ctx (i ∷ is) = declare_all (declare ctx i) is
+
+-- At the start of pass 1 nothing is stored
+abbrev pub empty_context : (built_ins : TypeMap) → ModuleContext
+empty_context built_ins = record { built_ins = built_ins; type_aliases = no_types; globals = no_types }
 
 -- After pass 1
 abbrev pub module_context : (built_ins : TypeMap) → List Item → ModuleContext
-module_context built_ins items = (declare_all (empty_pass1 built_ins) items).types
-
--- The declarations of a module
-abbrev pub declarations_in : (built_ins : TypeMap) → List Item → List Declaration
-declarations_in built_ins items = declarations (empty_pass1 built_ins) items
+module_context built_ins items = declare_all (empty_context built_ins) items
 
 abbrev pub errors_in1 : Declaration → List TypeError
-errors_in1 d = declaration_errors d.met (is_taken d.met.type_aliases d.item) d.item ++ clash_errors d.clash d.item
+errors_in1 d = declaration_errors d.met (is_taken d.met.type_aliases d.item) d.item
 
 abbrev pub types_in1 : Declaration → List Ty
 types_in1 d = declaration_types d.met (is_taken d.met.type_aliases d.item) d.item
@@ -245,12 +181,12 @@ item_types ctx item = map slot_type (item_slots ctx item)
 -- The whole module: its errors in order
 unfoldable pub module_errors : (built_ins : TypeMap) → List Item → List TypeError
 module_errors built_ins items =
-    each errors_in1 (declarations_in built_ins items) ++ each (item_errors (module_context built_ins items)) items
+    each errors_in1 (declarations (empty_context built_ins) items) ++ each (item_errors (module_context built_ins items)) items
 
 -- The types that either pass converts or stores or an expression carries
 unfoldable pub types_met : (built_ins : TypeMap) → List Item → List Ty
 types_met built_ins items =
-    each types_in1 (declarations_in built_ins items) ++ each (item_types (module_context built_ins items)) items
+    each types_in1 (declarations (empty_context built_ins) items) ++ each (item_types (module_context built_ins items)) items
 
 -- The rows: the fixed seven, and the types met with their parts and list cells (each as often as it is met)
 unfoldable pub needed_types : (built_ins : TypeMap) → List Item → List Ty

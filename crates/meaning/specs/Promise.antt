@@ -15,7 +15,7 @@ use Rattle.trees.specs.Record.{item_tree, item_slot_places}
 use Rattle.trees.specs.Tree.{Item}
 use Rattle.meaning.specs.TypeError.{TypeError, Operand, plain, row, move_place}
 use Rattle.meaning.specs.Context.{TypeMap, each, ModuleContext}
-use Rattle.meaning.specs.Module.{declarations_in, module_context, errors_in1, module_errors, needed_types, item_errors, item_types}
+use Rattle.meaning.specs.Module.{empty_context, declarations, module_context, errors_in1, module_errors, needed_types, item_errors, item_types}
 use Rattle.meaning.specs.ItemStart.{place_in_item}
 
 -- Four working words a name
@@ -133,7 +133,7 @@ abbrev pub placed_item_errors : (input : List ℕ) → (at : ℕ) → List TypeE
 placed_item_errors input at = map (move_place (λ p. at + p)) (item_errors (context_of input) (item_tree (item_bytes input at)))
 
 unfoldable pub placed_errors_of : (input : List ℕ) → List TypeError
-placed_errors_of input = each errors_in1 (declarations_in (built_ins_of input) (trees_of input)) ++ each (placed_item_errors input) (item_places input)
+placed_errors_of input = each errors_in1 (declarations (empty_context (built_ins_of input)) (trees_of input)) ++ each (placed_item_errors input) (item_places input)
 
 -- "that place is counted from the start of its item"
 abbrev pub from_item : (input : List ℕ) → TypeError → TypeError

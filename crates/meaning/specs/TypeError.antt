@@ -1,5 +1,4 @@
--- The 29 errors of document 01, "Errors", with the eighth word of document 02, paper 1, and error 30 of paper 2. Operands that are rows there are
--- unfolded types here.
+-- The 29 errors of document 01, "Errors", with the eighth word of document 02, paper 1. Operands that are rows there are unfolded types here.
 use Rattle.std.specs.Prelude.{ℕ, Bool, cond, List, [], ◌∷◌, eqb}
 use Rattle.types.specs.Ty.{Ty}
 use Rattle.fallible.specs.Operands.{mismatch_kind, literal_kind}
@@ -115,10 +114,6 @@ struct_compound_target l t = error 28 l (row t) unused unused
 
 abbrev pub field_twice : Location → (name : ℕ) → TypeError
 field_twice l name = error 29 l (plain name) unused unused
-
--- Document 02, paper 2
-abbrev pub duplicate_global : Location → (name : ℕ) → TypeError
-duplicate_global l name = error 30 l (plain name) unused unused
 
 -- One error unless a test holds
 abbrev pub unless : Bool → TypeError → List TypeError

@@ -1,11 +1,10 @@
--- Two modules whose errors can be read: one with a literal out of range, whose error has the place of the literal in the file, and one with two
--- variables of one name.
+-- A module with a literal out of range: its error has the place of the literal in the file, and can be read.
 use Rattle.std.specs.Prelude.{ℕ, ◌≡◌, List, [], ◌∷◌, ◌++◌}
 use Rattle.trees.specs.Example.{head, word}
 use Rattle.layout.specs.Layout.{layout_of}
 use Rattle.trees.specs.Tree.{location}
 use Rattle.layout.specs.declared.Layout.TheVariants.{Good}
-use Rattle.meaning.specs.TypeError.{literal_out_of_range, duplicate_global}
+use Rattle.meaning.specs.TypeError.{literal_out_of_range}
 use Rattle.meaning.specs.Context.{All}
 use Rattle.meaning.specs.Promise.{placed_errors_of}
 use Rattle.listing.specs.Literals.{literal_places}
@@ -22,24 +21,8 @@ bad_literal =
     ++ head 24 16 3 4 ++ word 0 ++ word 1
     ++ head 29 33 3 10 ++ word 0 ++ word 10 ++ (54 ∷ 53 ∷ 53 ∷ 51 ∷ 54 ∷ [])
 
--- Names x, u16 and i16, globals `x: u16` at line 3 and `x: i16` at line 4
-abbrev pub two_variables : List ℕ
-two_variables =
-    head 175 1 0 0
-    ++ head 71 2 0 0
-    ++ head 17 3 0 0 ++ (120 ∷ [])
-    ++ head 19 3 0 0 ++ (117 ∷ 49 ∷ 54 ∷ [])
-    ++ head 19 3 0 0 ++ (105 ∷ 49 ∷ 54 ∷ [])
-    ++ head 44 83 3 1 ++ word 0
-    ++ head 24 16 3 4 ++ word 0 ++ word 1
-    ++ head 44 83 4 1 ++ word 0
-    ++ head 24 16 4 4 ++ word 0 ++ word 2
-
 pub record Examples : Type 0 where
   pub layout : layout_of bad_literal ≡ Good
   pub literals : literal_places bad_literal ≡ 112 ∷ []
   pub errors : placed_errors_of bad_literal ≡ literal_out_of_range (location 112 0 3 10) ∷ []
   pub readable : All (Readable bad_literal) (placed_errors_of bad_literal)
-  pub variables_layout : layout_of two_variables ≡ Good
-  pub variables_errors : placed_errors_of two_variables ≡ duplicate_global (location 131 0 4 1) 0 ∷ []
-  pub variables_readable : All (Readable two_variables) (placed_errors_of two_variables)

@@ -2,7 +2,7 @@
 -- Assumes nothing.
 use Prim.Native.Nat.{ℕ}
 use mathlib.Core.Path.{◌≡◌, refl, sym, ◌∙◌, ap, ap₂}
-use mathlib.Core.Bool.{Bool, true, false, cond, ◌&&◌, ◌||◌, not}
+use mathlib.Core.Bool.{Bool, true, false, ◌&&◌, ◌||◌, not}
 use mathlib.Core.List.{List, [], ◌∷◌, ◌++◌, map, map-append}
 use mathlib.Core.Option.{Option, none, some}
 use lib.Dec.{leb}
@@ -11,13 +11,13 @@ use Rattle.trees.specs.Tree.{Location, location, TypeNode, Expression, CompoundF
 use Rattle.trees.specs.Tree.{Statement, block, expression, variable_declaration, assignment, compound_assignment, return, loop, while, break, «if», if_else, inline_assembly, no_statements, statement_then}
 use Rattle.trees.specs.Tree.{Parameter, Item, function_definition, type_alias, global_declaration, other_item}
 use Rattle.meaning.specs.TypeError.{unless, field_twice, move_place}
-use Rattle.meaning.specs.Context.{TypeMap, ModuleContext, Context, context, blank, entry, each, is_some}
+use Rattle.meaning.specs.Context.{TypeMap, ModuleContext, Context, context, blank, entry, each}
 use Rattle.meaning.specs.Convert.{Slot, convert_node_type, conversion_slots}
 use Rattle.meaning.specs.Expression.{expression_type, expression_errors, expression_slots, check_assignable, field_type}
 use Rattle.meaning.specs.Compound.{element_errors, field_fits, struct_errors, occurrences, repeat_errors, compound_errors, compound_slots, initial_errors, global_initial_errors, initial_slots}
 use Rattle.meaning.specs.Statement.{declare_local, context_after, return_errors, return_slots, statement_errors, statement_slots}
 use Rattle.meaning.specs.Divergence.{find_break, do_all_paths_diverge}
-use Rattle.meaning.specs.Module.{parameter_entry, parameter_errors, parameter_slots, parameter_types, argument_cells, function_type, alias_errors, is_taken, alias_entries, global_entries, declaration_errors, has_body, Pass1, is_of_type, clashes, clash_errors, unpaired_with, unpaired_after, slot_type, declared_types, function_context, body_errors, body_slots, item_errors, item_slots}
+use Rattle.meaning.specs.Module.{parameter_entry, parameter_errors, parameter_slots, parameter_types, argument_cells, alias_errors, is_taken, alias_entries, global_entries, declaration_errors, slot_type, declared_types, function_context, body_errors, body_slots, item_errors, item_slots}
 use Rattle.slot_places.proofs.Move.{placeless, move_slot, either_errors, conversion_places, Keeps}
 
 abbrev pub change_field : (Expression → Expression) → CompoundField → CompoundField
@@ -300,10 +300,6 @@ module _ {g : ℕ → ℕ} {e : Expression → Expression} {t : TypeNode → Typ
   same_parameter_types : (ctx : ModuleContext) (ps : List Parameter) → each (parameter_types ctx) (map (change_parameter t) ps) ≡ each (parameter_types ctx) ps
   same_parameter_types ctx ps = each_same (parameter_types ctx) (parameter_types ctx) (change_parameter t) (λ p. same_converted ctx p.type) ps
 
-  same_function_type : (ctx : ModuleContext) (returned : TypeNode) (ps : List Parameter)
-      → function_type ctx (t returned) (map (change_parameter t) ps) ≡ function_type ctx returned ps
-  same_function_type ctx returned ps = ap₂ function (k.types ctx returned) (same_cells ctx ps)
-
   same_function : (ctx : ModuleContext) (returned : TypeNode) (ps : List Parameter) → function_context ctx (t returned) (map (change_parameter t) ps) ≡ function_context ctx returned ps
   same_function ctx returned ps = rw (k.types ctx returned, same_entries ctx ps)
 
@@ -319,33 +315,19 @@ pub record SameItem (g : ℕ → ℕ) (i j : Item) : Type 0 where
   pub aliases : (ctx : ModuleContext) (taken : Bool) → alias_entries ctx taken i ≡ alias_entries ctx taken j
   pub globals : (ctx : ModuleContext) → global_entries ctx i ≡ global_entries ctx j
   pub errors1 : (ctx : ModuleContext) (taken : Bool) → declaration_errors ctx taken i ≡ declaration_errors ctx taken j
-  pub clash : (pass : Pass1) → clashes pass i ≡ clashes pass j
-  pub unpaired : (pass : Pass1) (clash : Bool) → unpaired_after pass clash i ≡ unpaired_after pass clash j
-  pub duplicates : (clash : Bool) → clash_errors clash i ≡ clash_errors clash j
   pub types1 : (ctx : ModuleContext) → declared_types ctx i ≡ declared_types ctx j
   pub errors2 : (ctx : ModuleContext) → item_errors ctx i ≡ map (move_place g) (item_errors ctx j)
   pub slots : (ctx : ModuleContext) → item_slots ctx i ≡ map (move_slot g) (item_slots ctx j)
 
-same_sort_lem : (f : Statement → Statement) (body : Option Statement) → has_body (change_option f body) ≡ has_body body
-same_sort_lem f none = refl
-same_sort_lem f (some s) = refl
-
 pub same_item : {g : ℕ → ℕ} {e : Expression → Expression} {t : TypeNode → TypeNode} → Keeps g e t → (i : Item) → SameItem g (change_item e t i) i
-unfolding is_taken alias_entries global_entries declaration_errors clashes unpaired_after clash_errors declared_types item_errors item_slots change_item
+unfolding is_taken alias_entries global_entries declaration_errors declared_types item_errors item_slots change_item
 same_item {g} {e} {t} k (function_definition l name returned parameters body) =
     let body' : Option Statement = change_option (change_statement e t) body in
-    let sort : has_body body' ≡ has_body body = same_sort_lem (change_statement e t) body in
     record {
       taken = λ aliases. refl;
       aliases = λ ctx taken. refl;
-      globals = λ ctx. ap (λ u. entry name u ∷ []) (same_function_type k ctx returned parameters);
+      globals = λ ctx. ap₂ (λ x y. entry name (function x y) ∷ []) (k.types ctx returned) (same_cells k ctx parameters);
       errors1 = λ ctx taken. ap₂ ◌++◌ (k.type_errors ctx returned) (same_parameter_errors k ctx parameters);
-      clash = λ pass. ap₂ (λ b u. is_some (pass.types.globals name) && not (is_of_type (pass.unpaired (not b) name) u)) sort
-          (same_function_type k pass.types returned parameters);
-      unpaired = λ pass clash.
-          ap₂ (λ b u. cond clash pass.unpaired (unpaired_with (is_some (pass.types.globals name)) b name u pass.unpaired)) sort
-          (same_function_type k pass.types returned parameters);
-      duplicates = λ clash. refl;
       types1 = λ ctx. ap₂ ◌++◌ (same_converted k ctx returned) (same_parameter_types k ctx parameters);
       errors2 = λ ctx. (λ j. same_parameter_errors k ctx parameters j ++ k.type_errors ctx returned j
           ++ (ap (λ c. body_errors c (placeless l) name body') (same_function k ctx returned parameters) ∙ same_body_errors k (function_context ctx returned parameters) l name body) j)
@@ -360,9 +342,6 @@ same_item {g} {e} {t} k (type_alias l name is_distinct internal x) =
       aliases = λ ctx taken. rw (k.types ctx x);
       globals = λ ctx. refl;
       errors1 = λ ctx taken. ap₂ ◌++◌ (k.type_errors ctx x) (ap (alias_errors (placeless l) name internal taken (ctx.built_ins name)) (k.types ctx x) ∙ alias_errors_lem l name internal taken (ctx.built_ins name) (convert_node_type ctx x));
-      clash = λ pass. refl;
-      unpaired = λ pass clash. refl;
-      duplicates = λ clash. refl;
       types1 = λ ctx. same_converted k ctx x;
       errors2 = λ ctx. k.type_errors ctx x ∙ sym (conversion_places g ctx x);
       slots = λ ctx. k.type_slots ctx x;
@@ -373,9 +352,6 @@ same_item {g} {e} {t} k (global_declaration l name x value) =
       aliases = λ ctx taken. refl;
       globals = λ ctx. ap (λ y. entry name y ∷ []) (k.types ctx x);
       errors1 = λ ctx taken. k.type_errors ctx x;
-      clash = λ pass. refl;
-      unpaired = λ pass clash. refl;
-      duplicates = λ clash. refl;
       types1 = λ ctx. same_converted k ctx x;
       errors2 = λ ctx. ap₂ ◌++◌ (k.type_errors ctx x)
           (ap (λ y. global_initial_errors (context ctx blank) y (change_value e value)) (k.types ctx x) ∙ same_global_errors k (context ctx blank) (convert_node_type ctx x) value)
@@ -388,9 +364,6 @@ same_item k other_item =
       aliases = λ ctx taken. refl;
       globals = λ ctx. refl;
       errors1 = λ ctx taken. refl;
-      clash = λ pass. refl;
-      unpaired = λ pass clash. refl;
-      duplicates = λ clash. refl;
       types1 = λ ctx. refl;
       errors2 = λ ctx. refl;
       slots = λ ctx. refl;

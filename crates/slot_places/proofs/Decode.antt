@@ -11,7 +11,7 @@ use Rattle.trees.specs.Tree.{array_compound, struct_compound, assigned, compound
 use Rattle.trees.specs.Tree.{function_definition, type_alias, global_declaration}
 use Rattle.trees.specs.Record.{RecordHead, Records, no_records, record_then, next, type_of, to_type, expression_list, first_expression, later_expressions, second_expression, expression_of, to_expressions, to_expression}
 use Rattle.trees.specs.Record.{to_compound_fields, compound_of, to_compound, to_initial_value, to_optional, statement_list, first_statement, later_statements, none_left, if_of, statement_of, to_statements, to_parameters, to_body, is_distinct, is_internal, to_item}
-use Rattle.meaning.specs.Module.{is_taken, alias_entries, global_entries, declaration_errors, clashes, unpaired_after, clash_errors, declared_types, item_errors, item_slots}
+use Rattle.meaning.specs.Module.{is_taken, alias_entries, global_entries, declaration_errors, declared_types, item_errors, item_slots}
 use Rattle.slot_places.proofs.Move.{same_places, moved, placeless, move_type, move_expression, move_keeps, none_keeps}
 use Rattle.slot_places.proofs.Change.{change_field, change_compound, change_value, change_option, change_statement, change_parameter, change_item, SameItem, same_item}
 
@@ -253,9 +253,6 @@ moved_item g r =
       aliases = λ ctx taken. sym (a.aliases ctx taken) ∙ ap (alias_entries ctx taken) e ∙ b.aliases ctx taken;
       globals = λ ctx. sym (a.globals ctx) ∙ ap (global_entries ctx) e ∙ b.globals ctx;
       errors1 = λ ctx taken. sym (a.errors1 ctx taken) ∙ ap (declaration_errors ctx taken) e ∙ b.errors1 ctx taken;
-      clash = λ pass. sym (a.clash pass) ∙ ap (clashes pass) e ∙ b.clash pass;
-      unpaired = λ pass clash. sym (a.unpaired pass clash) ∙ ap (unpaired_after pass clash) e ∙ b.unpaired pass clash;
-      duplicates = λ clash. sym (a.duplicates clash) ∙ ap (clash_errors clash) e ∙ b.duplicates clash;
       types1 = λ ctx. sym (a.types1 ctx) ∙ ap (declared_types ctx) e ∙ b.types1 ctx;
       errors2 = λ ctx. sym (same_places (item_errors ctx i)) ∙ sym (a.errors2 ctx) ∙ ap (item_errors ctx) e ∙ b.errors2 ctx;
       slots = λ ctx. sym (map-id (item_slots ctx i)) ∙ sym (a.slots ctx) ∙ ap (item_slots ctx) e ∙ b.slots ctx;

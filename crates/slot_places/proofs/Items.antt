@@ -1,7 +1,7 @@
 -- The items of a module by their places mean what their own bytes mean. Assumes nothing.
 use Prim.Native.Nat.{ℕ, zero, suc, ◌+◌, ◌≤◌, ◌<◌}
 use mathlib.Core.Path.{◌≡◌, refl, sym, ◌∙◌, ap, ap₂, subst}
-use mathlib.Core.Bool.{Bool, true, false, cond, ◌&&◌}
+use mathlib.Core.Bool.{Bool, true, false, ◌&&◌}
 use mathlib.Core.List.{List, [], ◌∷◌, ◌++◌, map, map-map}
 use lib.ListN.{length, get_or}
 use lib.Dec.{leb}
@@ -22,7 +22,7 @@ use Rattle.node.proofs.Open.{opened, split_may, items_list, item_chain}
 use Rattle.trees.proofs.Decode.{fine_wide}
 use Rattle.meaning.specs.TypeError.{move_place}
 use Rattle.meaning.specs.Context.{TypeMap, ModuleContext, insert_all, each, All}
-use Rattle.meaning.specs.Module.{is_taken, alias_entries, declaration_errors, slot_type, entry_type, Pass1, clashes, clash_errors, unpaired_after, declare, Declaration, declarations, declare_all, empty_pass1, module_context, errors_in1, types_in1, item_errors, item_slots, item_types, module_errors, types_met, needed_types}
+use Rattle.meaning.specs.Module.{is_taken, alias_entries, declaration_errors, slot_type, entry_type, declare, declarations, declare_all, empty_context, module_context, errors_in1, types_in1, item_errors, item_slots, item_types, module_errors, types_met, needed_types}
 use Rattle.meaning.specs.Promise.{trees_of, built_ins_of, context_of, placed_errors_of, item_place, item_at, item_count}
 use Rattle.slot_places.specs.Absolute.{module_item_at, trees_at}
 use Rattle.slot_places.proofs.Change.{SameItem, same_types}
@@ -97,56 +97,34 @@ module _ (f g : ℕ → Item) where
     aliases_same : alias_entries ctx (is_taken ctx.type_aliases (f p)) (f p) ≡ alias_entries ctx (is_taken ctx.type_aliases (g p)) (g p)
     aliases_same = ap (λ b. alias_entries ctx b (f p)) (a.taken ctx.type_aliases) ∙ a.aliases ctx (is_taken ctx.type_aliases (g p))
 
+    declare_same : declare ctx (f p) ≡ declare ctx (g p)
+    declare_same = λ i. record { built_ins = ctx.built_ins; type_aliases = insert_all (aliases_same i) ctx.type_aliases; globals = insert_all (a.globals ctx i) ctx.globals }
+
+    errors_same : errors_in1 (record { item = f p; met = ctx }) ≡ errors_in1 (record { item = g p; met = ctx })
+    errors_same = ap (λ b. declaration_errors ctx b (f p)) (a.taken ctx.type_aliases) ∙ a.errors1 ctx (is_taken ctx.type_aliases (g p))
+
+    types_same : types_in1 (record { item = f p; met = ctx }) ≡ types_in1 (record { item = g p; met = ctx })
+    types_same = λ i. a.types1 ctx i ++ map entry_type (aliases_same i) ++ map entry_type (a.globals ctx i)
+
     item_types_same : item_types ctx (f p) ≡ item_types ctx (g p)
     item_types_same = ap (map slot_type) (a.slots ctx) ∙ same_types (λ n. p + n) (item_slots ctx (g p))
 
-  module _ (p : ℕ) (a : Alike p) (pass : Pass1) where
-    abbrev ctx : ModuleContext
-    ctx = pass.types
-
-    -- An item as pass 1 meets it
-    abbrev met : Item → Declaration
-    met i = record { item = i; met = ctx; clash = clashes pass i }
-
-    declare_same : declare pass (f p) ≡ declare pass (g p)
-    declare_same =
-        λ i. record {
-          types = record {
-            built_ins = ctx.built_ins;
-            type_aliases = insert_all (aliases_same p a ctx i) ctx.type_aliases;
-            globals = insert_all (cond (a.clash pass i) [] (a.globals ctx i)) ctx.globals;
-          };
-          unpaired = (ap (λ b. unpaired_after pass b (f p)) (a.clash pass) ∙ a.unpaired pass (clashes pass (g p))) i;
-        }
-
-    errors_same : errors_in1 (met (f p)) ≡ errors_in1 (met (g p))
-    errors_same =
-        ap₂ ◌++◌ (ap (λ b. declaration_errors ctx b (f p)) (a.taken ctx.type_aliases) ∙ a.errors1 ctx (is_taken ctx.type_aliases (g p)))
-        (ap (λ b. clash_errors b (f p)) (a.clash pass) ∙ a.duplicates (clashes pass (g p)))
-
-    types_same : types_in1 (met (f p)) ≡ types_in1 (met (g p))
-    types_same = λ i. a.types1 ctx i ++ map entry_type (aliases_same p a ctx i) ++ map entry_type (a.globals ctx i)
-
-  context_all : (ps : List ℕ) → All Alike ps → (pass : Pass1) → declare_all pass (map f ps) ≡ declare_all pass (map g ps)
+  context_all : (ps : List ℕ) → All Alike ps → (ctx : ModuleContext) → declare_all ctx (map f ps) ≡ declare_all ctx (map g ps)
   unfolding All declare_all
-  context_all [] h pass = refl
-  context_all (p ∷ ps) h pass = ap (λ c. declare_all c (map f ps)) (declare_same p h.0 pass) ∙ context_all ps h.1 (declare pass (g p))
+  context_all [] h ctx = refl
+  context_all (p ∷ ps) h ctx = ap (λ c. declare_all c (map f ps)) (declare_same p h.0 ctx) ∙ context_all ps h.1 (declare ctx (g p))
 
-  errors1_all : (ps : List ℕ) → All Alike ps → (pass : Pass1)
-      → each errors_in1 (declarations pass (map f ps)) ≡ each errors_in1 (declarations pass (map g ps))
+  errors1_all : (ps : List ℕ) → All Alike ps → (ctx : ModuleContext) → each errors_in1 (declarations ctx (map f ps)) ≡ each errors_in1 (declarations ctx (map g ps))
   unfolding All each declarations
-  errors1_all [] h pass = refl
-  errors1_all (p ∷ ps) h pass =
-      ap₂ ◌++◌ (errors_same p h.0 pass)
-      (ap (λ c. each errors_in1 (declarations c (map f ps))) (declare_same p h.0 pass) ∙ errors1_all ps h.1 (declare pass (g p)))
+  errors1_all [] h ctx = refl
+  errors1_all (p ∷ ps) h ctx =
+      ap₂ ◌++◌ (errors_same p h.0 ctx) (ap (λ c. each errors_in1 (declarations c (map f ps))) (declare_same p h.0 ctx) ∙ errors1_all ps h.1 (declare ctx (g p)))
 
-  types1_all : (ps : List ℕ) → All Alike ps → (pass : Pass1)
-      → each types_in1 (declarations pass (map f ps)) ≡ each types_in1 (declarations pass (map g ps))
+  types1_all : (ps : List ℕ) → All Alike ps → (ctx : ModuleContext) → each types_in1 (declarations ctx (map f ps)) ≡ each types_in1 (declarations ctx (map g ps))
   unfolding All each declarations
-  types1_all [] h pass = refl
-  types1_all (p ∷ ps) h pass =
-      ap₂ ◌++◌ (types_same p h.0 pass)
-      (ap (λ c. each types_in1 (declarations c (map f ps))) (declare_same p h.0 pass) ∙ types1_all ps h.1 (declare pass (g p)))
+  types1_all [] h ctx = refl
+  types1_all (p ∷ ps) h ctx =
+      ap₂ ◌++◌ (types_same p h.0 ctx) (ap (λ c. each types_in1 (declarations c (map f ps))) (declare_same p h.0 ctx) ∙ types1_all ps h.1 (declare ctx (g p)))
 
   errors2_all : (ps : List ℕ) → All Alike ps → (ctx : ModuleContext) → each (item_errors ctx) (map f ps) ≡ each (λ p. map (move_place (λ n. p + n)) (item_errors ctx (g p))) ps
   unfolding All each
@@ -161,9 +139,9 @@ module _ (f g : ℕ → Item) where
 -- The items by their places, and by their own bytes
 pub record SameModule (input : List ℕ) : Type 0 where
   pub items : All (λ p. SameItem (λ n. p + n) (module_item_at input p) (item_tree (item_bytes input p))) (item_places input)
-  pub context : (pass : Pass1) → declare_all pass (trees_at input) ≡ declare_all pass (trees_of input)
-  pub errors1 : (pass : Pass1) → each errors_in1 (declarations pass (trees_at input)) ≡ each errors_in1 (declarations pass (trees_of input))
-  pub types1 : (pass : Pass1) → each types_in1 (declarations pass (trees_at input)) ≡ each types_in1 (declarations pass (trees_of input))
+  pub context : (ctx : ModuleContext) → declare_all ctx (trees_at input) ≡ declare_all ctx (trees_of input)
+  pub errors1 : (ctx : ModuleContext) → each errors_in1 (declarations ctx (trees_at input)) ≡ each errors_in1 (declarations ctx (trees_of input))
+  pub types1 : (ctx : ModuleContext) → each types_in1 (declarations ctx (trees_at input)) ≡ each types_in1 (declarations ctx (trees_of input))
   pub types2 : (ctx : ModuleContext) → each (item_types ctx) (trees_at input) ≡ each (item_types ctx) (trees_of input)
   pub errors : module_errors (built_ins_of input) (trees_at input) ≡ placed_errors_of input
   pub types : (built_ins : TypeMap) → needed_types built_ins (trees_at input) ≡ needed_types built_ins (trees_of input)
@@ -177,12 +155,12 @@ same_module input e =
     let all : All (λ p. SameItem (λ n. p + n) (module_item_at input p) (item_tree (item_bytes input p))) ps =
     all_map (λ p. FineRecord input 63 p (length input) an_item) (λ p. SameItem (λ n. p + n) (module_item_at input p) (own p)) ps (same_at input) (items_fine input e) in
     let m : map own ps ≡ trees_of input = sym (map-map item_tree (item_bytes input) ps) in
-    let context : (pass : Pass1) → declare_all pass (trees_at input) ≡ declare_all pass (trees_of input) =
-    (λ pass. context_all (module_item_at input) own ps all pass ∙ ap (declare_all pass) m) in
-    let errors1 : (pass : Pass1) → each errors_in1 (declarations pass (trees_at input)) ≡ each errors_in1 (declarations pass (trees_of input)) =
-    (λ pass. errors1_all (module_item_at input) own ps all pass ∙ ap (λ l. each errors_in1 (declarations pass l)) m) in
-    let types1 : (pass : Pass1) → each types_in1 (declarations pass (trees_at input)) ≡ each types_in1 (declarations pass (trees_of input)) =
-    (λ pass. types1_all (module_item_at input) own ps all pass ∙ ap (λ l. each types_in1 (declarations pass l)) m) in
+    let context : (ctx : ModuleContext) → declare_all ctx (trees_at input) ≡ declare_all ctx (trees_of input) =
+    (λ ctx. context_all (module_item_at input) own ps all ctx ∙ ap (declare_all ctx) m) in
+    let errors1 : (ctx : ModuleContext) → each errors_in1 (declarations ctx (trees_at input)) ≡ each errors_in1 (declarations ctx (trees_of input)) =
+    (λ ctx. errors1_all (module_item_at input) own ps all ctx ∙ ap (λ l. each errors_in1 (declarations ctx l)) m) in
+    let types1 : (ctx : ModuleContext) → each types_in1 (declarations ctx (trees_at input)) ≡ each types_in1 (declarations ctx (trees_of input)) =
+    (λ ctx. types1_all (module_item_at input) own ps all ctx ∙ ap (λ l. each types_in1 (declarations ctx l)) m) in
     let types2 : (ctx : ModuleContext) → each (item_types ctx) (trees_at input) ≡ each (item_types ctx) (trees_of input) =
     (λ ctx. types2_all (module_item_at input) own ps all ctx ∙ ap (each (item_types ctx)) m) in
     record {
@@ -191,12 +169,9 @@ same_module input e =
       errors1 = errors1;
       types1 = types1;
       types2 = types2;
-      errors = let start = empty_pass1 (built_ins_of input) in
-          ap₂ ◌++◌ (errors1 start)
-          (ap (λ (c : Pass1). each (item_errors c.types) (trees_at input)) (context start)
-          ∙ errors2_all (module_item_at input) own ps all (context_of input));
-      types = λ built_ins. let start = empty_pass1 built_ins in
+      errors = let start = empty_context (built_ins_of input) in
+          ap₂ ◌++◌ (errors1 start) (ap (λ c. each (item_errors c) (trees_at input)) (context start) ∙ errors2_all (module_item_at input) own ps all (context_of input));
+      types = λ built_ins. let start = empty_context built_ins in
           ap (λ l. fixed_types ++ each parts l)
-          (ap₂ ◌++◌ (types1 start)
-          (ap (λ (c : Pass1). each (item_types c.types) (trees_at input)) (context start) ∙ types2 (module_context built_ins (trees_of input))));
+          (ap₂ ◌++◌ (types1 start) (ap (λ c. each (item_types c) (trees_at input)) (context start) ∙ types2 (module_context built_ins (trees_of input))));
     }

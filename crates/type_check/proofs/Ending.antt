@@ -33,7 +33,7 @@ use Rattle.walk.proofs.Sets.{both, count_within}
 use Rattle.slot_places.specs.Absolute.{items_at}
 use Rattle.slot_places.proofs.Filled.{Filled, filled}
 use Rattle.convert.specs.Post.{Ready}
-use Rattle.declare.specs.Post.{ModuleDeclared}
+use Rattle.declare.specs.Post.{AllDeclared}
 use Rattle.items.specs.Post.{ItemsChecked}
 use Rattle.type_check.specs.Post.{buffers, Passed, Results, BothPasses}
 use Rattle.type_check.proofs.Begin.{zeros, empty_words}
@@ -53,7 +53,7 @@ module _ {input output rows rows₇ index errors work output' rows' index' error
     (at : from ≡ names_end input) (numbers : names ≡ built_ins input) (passed : Passed input (length output) (length work)) (copied : output ≡ input ++ drop (length input) output)
     (empty : work ≡ replicate (work_width * name_count input) 0) (fixed : FixedStored rows rows₇)
     (sameErrors : length errors' ≡ length errors)
-    (declared : ModuleDeclared input names (items_at input 63 from (length input)) from (length input)
+    (declared : AllDeclared input names (items_at input 63 from (length input)) from (length input)
     (lent work output errors rows₇ index (record { errors = 0; rows = 7; full = false })) B)
     (checked : ItemsChecked input names (items_at input 63 from (length input)) from (length input) B (lent work' output' errors' rows' index' r)) where
   few : length input ≤ max_bytes
@@ -66,8 +66,8 @@ module _ {input output rows rows₇ index errors work output' rows' index' error
   stands : Represents output errors (lent work' output' errors' rows' index' r) (module_effect input)
   stands =
       let start = empty_words input work output errors rows₇ (record { errors = 0; rows = 7; full = false }) zero_words passed.names in
-      let place : (A : Lent) → ModuleDeclared input (names) (items_at input 63 from (length input)) from (length input) A B → ModuleDeclared input (built_ins input) (items_at input 63 (names_end input) (length input)) (names_end input) (length input) A B =
-      (λ A d. subst (λ (k : ℕ). ModuleDeclared input (built_ins input) (items_at input 63 k (length input)) k (length input) A B) at (subst (λ (n : BuiltIns). ModuleDeclared input n (items_at input 63 from (length input)) from (length input) A B) numbers d)) in
+      let place : (A : Lent) → AllDeclared input (names) (items_at input 63 from (length input)) from (length input) A B → AllDeclared input (built_ins input) (items_at input 63 (names_end input) (length input)) (names_end input) (length input) A B =
+      (λ A d. subst (λ (k : ℕ). AllDeclared input (built_ins input) (items_at input 63 k (length input)) k (length input) A B) at (subst (λ (n : BuiltIns). AllDeclared input n (items_at input 63 from (length input)) from (length input) A B) numbers d)) in
       let c = subst (λ (k : ℕ). ItemsChecked input (built_ins input) (items_at input 63 k (length input)) k (length input) B (lent work' output' errors' rows' index' r)) at
       (subst (λ (n : BuiltIns). ItemsChecked input n (items_at input 63 from (length input)) from (length input) B (lent work' output' errors' rows' index' r)) numbers checked) in
       subst (Represents output errors (lent work' output' errors' rows' index' r)) (nothing_then (module_effect input))
@@ -170,7 +170,7 @@ first_ready {input} {output} {rows} {rows₇} {index} {errors} {work} passed e f
     }
 
 pub second_ready : {input output rows₇ index errors work : List ℕ} {items : List Item} {from : ℕ} {names : BuiltIns} {B : Lent} {st : State} → Passed input (length output) (length work)
-    → ModuleDeclared input names items from (length input) (lent work output errors rows₇ index st) B → Ready input B
+    → AllDeclared input names items from (length input) (lent work output errors rows₇ index st) B → Ready input B
 second_ready passed d =
     record {
       good = d.walked.grew.good;
@@ -196,6 +196,6 @@ no_room input output rows errors work l =
     }
 
 -- The rows are as many words as before
-pub rows_kept : {input rows : List ℕ} {items : List Item} {from end : ℕ} {names : BuiltIns} {A B C : Lent} → FixedStored rows A.rows → ModuleDeclared input names items from end A B → ItemsChecked input names items from end B C
+pub rows_kept : {input rows : List ℕ} {items : List Item} {from end : ℕ} {names : BuiltIns} {A B C : Lent} → FixedStored rows A.rows → AllDeclared input names items from end A B → ItemsChecked input names items from end B C
     → length C.rows ≡ length rows
 rows_kept fixed declared checked = checked.walked.grew.extends.long ∙ declared.walked.grew.extends.long ∙ fixed.long

@@ -11,22 +11,22 @@ use Rattle.layout.specs.Layout.{layout_of}
 use Rattle.node.specs.Fine.{FineRecord}
 use Rattle.trees.specs.Tree.{Item}
 use Rattle.layout.specs.declared.Layout.TheVariants.{Good}
-use Rattle.meaning.specs.Context.{TypeMap, ModuleContext, each, All}
+use Rattle.meaning.specs.Context.{TypeMap, ModuleContext, context, blank, each, All}
 use Rattle.meaning.specs.Convert.{Slot}
-use Rattle.meaning.specs.Module.{slot_type, Pass1, empty_pass1, module_context, declarations_in, types_in1, item_errors, item_slots, item_types, module_errors, types_met}
+use Rattle.meaning.specs.Module.{slot_type, declarations, declare_all, empty_context, types_in1, item_errors, item_slots, item_types, module_errors, types_met}
 use Rattle.meaning.specs.Promise.{trees_of, built_ins_of, context_of, placed_errors_of}
 use Rattle.meaning.proofs.Order.{built_ins_kept}
 use Rattle.walk.specs.Effect.{store, store_from, Effect, ◌then◌}
 use Rattle.walk.specs.Represents.{Lent, Does}
 use Rattle.walk.proofs.Laws.{does_then}
-use Rattle.convert.specs.Convert.{store_slot, visiting}
+use Rattle.convert.specs.Convert.{Resolves, store_slot, visiting}
 use Rattle.slot_places.specs.Absolute.{module_item_at, trees_at, items_at}
 use Rattle.slot_places.specs.Stores.{item_stores, module_stores}
 use Rattle.slot_places.proofs.Items.{same_module, items_fine}
 use Rattle.slot_places.proofs.Listed.{module_items}
 use Rattle.slot_places.proofs.Stores.{stores_at}
-use Rattle.declare.specs.Declare.{declaring}
-use Rattle.declare.specs.Post.{NothingDeclared, ModuleDeclared}
+use Rattle.declare.specs.Declare.{declarations_of}
+use Rattle.declare.specs.Post.{AllDeclared}
 use Rattle.items.specs.Post.{Outside, ItemsChecked}
 
 -- The steps of both passes, a bound on the rows asked for
@@ -70,27 +70,24 @@ module _ (input : List ℕ) (good : layout_of input ≡ Good) where
   abbrev items : List Item
   items = items_at input 63 from (length input)
 
-  abbrev start : Pass1
-  start = empty_pass1 (built_ins_of input)
-
-  abbrev context_after : List Item → ModuleContext
-  context_after trees = module_context (built_ins_of input) trees
+  abbrev start : ModuleContext
+  start = empty_context (built_ins_of input)
 
   abbrev bothPasses : List Item → Effect
   bothPasses trees =
-      declaring (declarations_in (built_ins_of input) trees) (length input - from)
-      then visiting true (each (item_slots (context_after trees)) trees) (each (item_errors (context_after trees)) trees) (length input - from)
+      declarations_of trees (length input - from) start
+      then visiting true (each (item_slots (declare_all start trees)) trees) (each (item_errors (declare_all start trees)) trees) (length input - from)
 
   trees_effect : bothPasses (trees_at input) ≡ module_effect input
   unfolding module_errors types_met
   trees_effect =
       let same = same_module input good in
-      let ctx = ap (λ (p : Pass1). p.types) (same.context start) in
-      let before = context_after (trees_at input) in
-      let stores = stores_of input before (item_places input) (items_fine input good) ∙ ap (λ (m : ModuleContext). module_stores input m) ctx in
-      let types : each types_in1 (declarations_in (built_ins_of input) (trees_at input)) ++ map slot_type (each (item_slots before) (trees_at input)) ≡ types_met (built_ins_of input) (trees_of input) =
+      let ctx = same.context start in
+      let stores =
+      stores_of input (declare_all start (trees_at input)) (item_places input) (items_fine input good) ∙ ap (λ (m : ModuleContext). module_stores input m) ctx in
+      let types : each types_in1 (declarations start (trees_at input)) ++ map slot_type (each (item_slots (declare_all start (trees_at input))) (trees_at input)) ≡ types_met (built_ins_of input) (trees_of input) =
       ap₂ ◌++◌ (same.types1 start)
-      (map_each slot_type (item_slots before) (trees_at input) ∙ same.types2 before ∙ ap (λ (m : ModuleContext). each (item_types m) (trees_of input)) ctx) in
+      (map_each slot_type (item_slots (declare_all start (trees_at input))) (trees_at input) ∙ same.types2 (declare_all start (trees_at input)) ∙ ap (λ (m : ModuleContext). each (item_types m) (trees_of input)) ctx) in
       let steps : length input - from + (length input - from) ≡ module_steps input = omega arith in
       λ i. record { stores = stores i; errors = same.errors i; met = types i; steps = steps i }
 
@@ -98,11 +95,11 @@ module _ (input : List ℕ) (good : layout_of input ≡ Good) where
   module_effect_lem = ap bothPasses (module_items input good) ∙ trees_effect
 
   -- Whatever was done before pass 1, the whole effect was done after pass 2
-  pub both_passes : {A B C : Lent} → NothingDeclared input (built_ins input) A (built_ins_of input) → ModuleDeclared input (built_ins input) items from (length input) A B
+  pub both_passes : {A B C : Lent} → Resolves input (built_ins input) A (context start blank) → AllDeclared input (built_ins input) items from (length input) A B
       → ItemsChecked input (built_ins input) items from (length input) B C → Does (module_effect input) A C
   both_passes {A} {B} {C} r d i =
-      let m = context_after items in
-      let kept : m.built_ins ≡ built_ins_of input = built_ins_kept start items in
+      let m = declare_all start items in
+      let kept : m.built_ins ≡ start.built_ins = built_ins_kept start items in
       let outside : Outside input (built_ins input) B m =
-      record { scope = d.scope (built_ins_of input) r; built_ins = λ name known. ap (λ (f : TypeMap). f name) kept ∙ r.built_ins name known } in
-      subst (λ (e : Effect). Does e A C) module_effect_lem (does_then (d.walked.does (built_ins_of input) r) (i.walked.does m outside))
+      record { scope = d.scope (context start blank) r; built_ins = λ name known. ap (λ (f : TypeMap). f name) kept ∙ r.built_ins name known } in
+      subst (λ (e : Effect). Does e A C) module_effect_lem (does_then (d.walked.does (context start blank) r) (i.walked.does m outside))

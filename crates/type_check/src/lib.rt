@@ -8,7 +8,7 @@ ghost use Rattle.meaning.specs.Promise.{Checked, cleared, work_width};
 ghost use Rattle.type_check.specs.Post.{buffers_before, buffers_after, outcome_of};
 ghost use Rattle.type_check.specs.Post.{loan_refusal, early_refusal, Passed, BothPasses, Ends};
 
-use declare::declare_module;
+use declare::declare_items;
 use fallible::ERROR_WIDTH;
 use items::type_check_items;
 use literal::digits::put_digits;
@@ -131,7 +131,7 @@ fn both_passes(
         rows: types::FIXED_COUNT,
         full: false,
     };
-    let next = declare_module(input, names, work, list, output, errors, rows, index, start);
+    let next = declare_items(input, names, work, list, output, errors, rows, index, start);
     type_check_items(input, names, work, list, output, errors, rows, index, next)
 }
 

@@ -34,7 +34,7 @@ fn pad_rows(maker: &mut Maker, rows: usize) {
         for _ in 0..(rows - have - 1).min(56) {
             ty = maker.tree(18, &[0], vec![ty]);
         }
-        let name = maker.name(format!("y{size}"));
+        let name = maker.name("x");
         let item = maker.tree(83, &[name], vec![ty]);
         maker.items.push(item);
     }
@@ -128,7 +128,7 @@ fn early_uses(maker: &mut Maker, rows: usize) {
         for _ in 0..56 {
             ty = maker.tree(18, &[0], vec![ty]);
         }
-        let name = maker.name(format!("y{size}"));
+        let name = maker.name("x");
         let item = maker.tree(83, &[name], vec![ty]);
         maker.items.push(item);
         made += 114;

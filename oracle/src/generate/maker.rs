@@ -29,10 +29,6 @@ pub struct Maker {
     pub returned: u32,
     /// Wrong choices of 100.
     pub wrong: usize,
-    /// Functions of 100 that get a partner: one with a body beside an extern one, or the other way.
-    pub paired: usize,
-    /// Functions and variables of 100 that take a name whether it is taken or not.
-    pub duplicated: usize,
     /// Records still to be made before expressions get short.
     pub budget: i64,
     pub places: Places,
@@ -44,8 +40,6 @@ impl Maker {
     pub fn new(seed: u64) -> Self {
         let mut random = Random::new(seed);
         let wrong = *random.pick(&[0, 1, 3, 10, 30]);
-        let paired = *random.pick(&[0, 0, 10, 30]);
-        let duplicated = *random.pick(&[0, 0, 0, 0, 5, 30]);
         let places = *random.pick(&[Places::Counted, Places::Counted, Places::Counted, Places::Zero, Places::Random]);
         Maker {
             random,
@@ -58,8 +52,6 @@ impl Maker {
             locals: vec![],
             returned: VOID,
             wrong,
-            paired,
-            duplicated,
             budget: 200,
             places,
             line: 0,
@@ -93,34 +85,16 @@ impl Maker {
         self.name(format!("{prefix}{number}"))
     }
 
-    /// A name out of a few that is none of those taken or, so many times of 100, any of them.
-    fn untaken_name(&mut self, prefix: &str, taken: &[(u32, u32)], any: usize) -> u32 {
-        let any = self.random.chance(any);
+    /// A name out of a few that is none of those taken, unless it goes wrong.
+    pub fn fresh_name(&mut self, prefix: &str, of: usize, taken: &[(u32, u32)]) -> u32 {
+        let any = self.wrong > 0 && self.random.chance(20);
         for _ in 0..20 {
-            let name = self.some_name(prefix, 12);
+            let name = self.some_name(prefix, of);
             if any || !taken.iter().any(|one| one.0 == name) {
                 return name;
             }
         }
         self.name(format!("{prefix}_{}", taken.len()))
-    }
-
-    /// A name out of a few that is none of those taken, unless it goes wrong.
-    pub fn fresh_name(&mut self, prefix: &str, taken: &[(u32, u32)]) -> u32 {
-        self.untaken_name(prefix, taken, if self.wrong > 0 { 20 } else { 0 })
-    }
-
-    /// A name for a function or variable, mostly one that no other has.
-    pub fn global_name(&mut self, prefix: &str) -> u32 {
-        let taken = self.globals.clone();
-        self.untaken_name(prefix, &taken, self.duplicated)
-    }
-
-    /// A function or variable joins those known, unless there is one of its name: the first is in force.
-    pub fn know_global(&mut self, name: u32, ty: u32) {
-        if !self.globals.iter().any(|global| global.0 == name) {
-            self.globals.push((name, ty));
-        }
     }
 
     /// The type of a global.

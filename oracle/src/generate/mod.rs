@@ -1,7 +1,6 @@
 //! Modules from a seed. Every class aims at some part of document 01; `mixed` takes one of the others.
 
 mod expression;
-mod globals;
 mod limits;
 mod maker;
 mod special;
@@ -14,7 +13,7 @@ use crate::{
 use maker::Maker;
 
 /// The classes and how often `mixed` takes each.
-pub const CLASSES: [(&str, usize); 17] = [
+pub const CLASSES: [(&str, usize); 16] = [
     ("typed", 40),
     ("tiny", 10),
     ("wild", 12),
@@ -31,7 +30,6 @@ pub const CLASSES: [(&str, usize); 17] = [
     ("bytes", 1),
     ("rows", 1),
     ("errors", 1),
-    ("globals", 8),
 ];
 
 /// The module of a class and seed, as bytes.
@@ -69,7 +67,6 @@ fn of_class(class: &str, seed: u64) -> Tree {
         "aliases" => special::aliases(&mut maker),
         "casts" => special::casts(&mut maker),
         "literals" => special::literals(&mut maker),
-        "globals" => globals::globals(&mut maker),
         "names" => limits::names(&mut maker),
         "chain" => special::chain(&mut maker),
         "structs" => special::structs(&mut maker),
@@ -109,7 +106,8 @@ fn deep(maker: &mut Maker) {
         if maker.random.chance(20) {
             special::deep_type(maker, levels);
         } else {
-            maker.function(levels, true);
+            let function = maker.function(levels, true);
+            maker.items.push(function);
         }
     }
 }

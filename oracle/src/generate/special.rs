@@ -1,15 +1,12 @@
 //! Modules that aim at one thing: aliases, casts, literals, divergence, shared types, bytes that are no text.
 
 use super::{maker::Maker, typed};
-use crate::{
-    rows::{BOOL, I16, POINTER_TO_U16, STRING, U16, VOID},
-    tree::Tree,
-};
+use crate::rows::{BOOL, I16, POINTER_TO_U16, STRING, U16, VOID};
 
 /// Aliases of all sorts over few names, before and after their uses.
 pub fn aliases(maker: &mut Maker) {
     let names = ["A0", "A1", "A2", "A3", "A4", "u16", "i16", "bool", "String", "void"];
-    for i in 0..maker.random.between(1, 14) {
+    for _ in 0..maker.random.between(1, 14) {
         let target = *maker.random.pick(&names);
         let mut ty = match maker.random.below(10) {
             0 => maker.spell(VOID),
@@ -29,14 +26,11 @@ pub fn aliases(maker: &mut Maker) {
         }
         let name = *maker.random.pick(&names);
         let name = maker.name(name);
-        // Functions and variables have mostly a name of their own.
-        let own = maker.name(format!("x{i}"));
-        let global = if maker.random.chance(20) { name } else { own };
         let item = match maker.random.below(4) {
-            0 => maker.tree(83, &[global], vec![ty]),
+            0 => maker.tree(83, &[name], vec![ty]),
             1 => {
                 let parameter = maker.tree(85, &[name], vec![ty.clone()]);
-                maker.tree(80, &[global], vec![ty, parameter])
+                maker.tree(80, &[name], vec![ty, parameter])
             }
             _ => {
                 let flags = *maker.random.pick(&[0, 0, 1, 1, 2, 3]);
@@ -51,7 +45,11 @@ pub fn aliases(maker: &mut Maker) {
         let e = maker.wild(3, false);
         members.push(maker.tree(65, &[], vec![e]));
     }
-    last_function(maker, members);
+    let body = maker.tree(64, &[0], members);
+    let returned = maker.spell(VOID);
+    let name = maker.name("f");
+    let function = maker.tree(80, &[name], vec![returned, body]);
+    maker.items.push(function);
 }
 
 /// Casts and assignments between pairs of types that are alike but for aliases, arrays and pointers.
@@ -84,11 +82,6 @@ pub fn casts(maker: &mut Maker) {
             members.push(maker.tree(67, &[], vec![target, value]));
         }
     }
-    last_function(maker, members);
-}
-
-/// Adds a function of these statements.
-pub fn last_function(maker: &mut Maker, members: Vec<Tree>) {
     let returned = maker.spell(VOID);
     let body = maker.tree(64, &[0], members);
     let name = maker.name("f");
@@ -97,7 +90,7 @@ pub fn last_function(maker: &mut Maker, members: Vec<Tree>) {
 }
 
 /// Declares an alias of a type; its row.
-pub fn declare(maker: &mut Maker, name: &str, of: u32, distinct: bool) -> u32 {
+fn declare(maker: &mut Maker, name: &str, of: u32, distinct: bool) -> u32 {
     let name = maker.name(name);
     let tree = maker.spell(of);
     let item = maker.tree(81, &[name, u32::from(distinct)], vec![tree]);
@@ -218,7 +211,7 @@ pub fn statements(maker: &mut Maker) {
     }
 }
 
-fn flow(maker: &mut Maker, levels: usize) -> Tree {
+fn flow(maker: &mut Maker, levels: usize) -> crate::tree::Tree {
     let choice = if levels == 1 { maker.random.below(4) } else { maker.random.below(14) };
     match choice {
         0 => maker.tree(72, &[], vec![]),
@@ -297,9 +290,9 @@ pub fn chain(maker: &mut Maker) {
         let item = maker.tree(81, &[inner, flags], vec![ty]);
         maker.items.push(item);
     }
-    for i in 0..maker.random.between(1, 4) {
+    for _ in 0..maker.random.between(1, 4) {
         let names: Vec<u32> = (0..2).map(|_| maker.random.below(maker.names().len()) as u32).collect();
-        let x = maker.name(format!("x{i}"));
+        let x = maker.name("x");
         let ty = maker.tree(16, &[0, names[0]], vec![]);
         let value = maker.tree(32, &[0, x], vec![]);
         let to = maker.tree(16, &[0, names[1]], vec![]);
@@ -351,7 +344,11 @@ pub fn structs(maker: &mut Maker) {
             members.push(maker.tree(67, &[], vec![access, value]));
         }
     }
-    last_function(maker, members);
+    let returned = maker.spell(VOID);
+    let body = maker.tree(64, &[0], members);
+    let name = maker.name("f");
+    let function = maker.tree(80, &[name], vec![returned, body]);
+    maker.items.push(function);
 }
 
 /// A typed module in which some names and literals are no UTF-8.

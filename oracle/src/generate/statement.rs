@@ -61,9 +61,14 @@ impl Maker {
         }
         // A local may hide an argument or a global.
         let prefix = *self.random.pick(&["x", "x", "x", "x", if kind == 66 { "p" } else { "x" }, "f"]);
-        let name = if kind == 66 { self.local_name(prefix, row) } else { self.global_name(prefix) };
-        if kind == 83 {
-            self.know_global(name, row);
+        let taken = if kind == 66 { self.locals.clone() } else { self.globals.clone() };
+        let name = self.fresh_name(prefix, 12, &taken);
+        let known = if kind == 66 { &mut self.locals } else { &mut self.globals };
+        match known.iter().position(|one| one.0 == name) {
+            // The first local counts, but the last global.
+            Some(_) if kind == 66 => {}
+            Some(i) => known[i].1 = row,
+            None => known.push((name, row)),
         }
         let mut children = vec![ty];
         let choice = self.random.below(10);
@@ -79,15 +84,6 @@ impl Maker {
             children.push(value);
         }
         self.tree(kind, &[name], children)
-    }
-
-    /// A name for a local variable, which joins those known unless there is one of its name: the first counts.
-    fn local_name(&mut self, prefix: &str, ty: u32) -> u32 {
-        let name = self.fresh_name(prefix, &self.locals.clone());
-        if !self.locals.iter().any(|local| local.0 == name) {
-            self.locals.push((name, ty));
-        }
-        name
     }
 
     /// Whether a compound for the type has few members, each of at most so many levels.
@@ -208,7 +204,7 @@ impl Maker {
                 self.variable(83, levels, deep)
             }
             5 | 6 => self.alias(levels),
-            _ => return self.function(levels, deep),
+            _ => self.function(levels, deep),
         };
         self.items.push(tree);
     }
@@ -219,7 +215,7 @@ impl Maker {
             if self.random.chance(4) { (self.spell(VOID), VOID) } else { self.declared((levels - 1).min(5)) };
         let built_in = ["u16", "i16", "bool", "String"].map(|name| (self.name(name), 0));
         let taken = [&self.aliases[..], &built_in].concat();
-        let mut name = self.fresh_name("A", &taken);
+        let mut name = self.fresh_name("A", 12, &taken);
         let mut flags = *self.random.pick(&[0, 0, 0, 1, 1]);
         if self.random.chance(2 * self.wrong) {
             flags = self.random.below(4) as u32;
@@ -239,42 +235,35 @@ impl Maker {
         self.tree(81, &[name, flags], vec![ty])
     }
 
-    /// Adds a function with a body, or extern, and now and then its partner, mostly next to it.
-    pub fn function(&mut self, levels: usize, deep: bool) {
-        let returned = if self.random.chance(25) { VOID } else { self.some_type((levels - 1).min(4)) };
-        let types: Vec<u32> = (0..self.random.below(4)).map(|_| self.some_type((levels - 2).min(4))).collect();
-        let name = self.global_name("f");
-        let function = self.rows.function(returned, &types);
-        self.know_global(name, function);
-        let answers = returned == VOID || self.fits(returned, (levels - 3).min(6)) || self.goes_wrong();
-        let has_body = deep || answers && self.random.chance(85);
-        let tree = self.function_of(name, returned, &types, has_body.then_some((levels - 1, deep)));
-        let place = self.items.len();
-        self.items.push(tree);
-        if answers && self.random.chance(self.paired) {
-            let partner = self.function_of(name, returned, &types, (!has_body).then_some((levels - 1, false)));
-            let place =
-                if self.random.chance(20) { self.random.below(place + 1) } else { place + self.random.below(2) };
-            self.items.insert(place, partner);
-        }
-    }
-
-    /// A function of these types, extern or with a body of so many levels, exactly so many if that is said.
-    pub fn function_of(&mut self, name: u32, returned: u32, types: &[u32], body: Option<(usize, bool)>) -> Tree {
+    /// A function with a body, or extern.
+    pub fn function(&mut self, levels: usize, deep: bool) -> Tree {
+        let (returned_tree, returned) = if self.random.chance(25) {
+            (self.tree(17, &[0], vec![]), VOID)
+        } else {
+            self.declared((levels - 1).min(4))
+        };
         self.returned = returned;
         self.locals.clear();
         self.arguments.clear();
-        let mut children = vec![self.spell(returned)];
-        for &ty in types {
-            let tree = self.spell(ty);
-            let prefix = *self.random.pick(&["p", "p", "p", "p", "p", "p", "x", "x", "f"]);
+        let mut children = vec![returned_tree];
+        let mut types = vec![];
+        for _ in 0..self.random.below(4) {
+            let (tree, ty) = self.declared((levels - 2).min(4));
+            let prefix = *self.random.pick(&["p", "p", "p", "x"]);
             let name = self.some_name(prefix, 6);
+            types.push(ty);
             self.arguments.retain(|argument| argument.0 != name);
             self.arguments.push((name, ty));
             children.push(self.tree(85, &[name], vec![tree]));
         }
-        if let Some((levels, deep)) = body {
-            let body = self.body(levels, deep);
+        let taken = self.globals.clone();
+        let name = self.fresh_name("f", 12, &taken);
+        let function = self.rows.function(returned, &types);
+        self.globals.retain(|global| global.0 != name);
+        self.globals.push((name, function));
+        let answers = returned == VOID || self.fits(returned, (levels - 3).min(6)) || self.goes_wrong();
+        if deep || answers && self.random.chance(85) {
+            let body = self.body(levels - 1, deep);
             children.push(body);
         }
         self.tree(80, &[name], children)

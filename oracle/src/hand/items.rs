@@ -1,8 +1,8 @@
 //! The two passes over items: aliases of every sort, globals, parameters, joining orders.
 
 use super::{
-    A, B, BOOL, Case, F, I16, STRING, U16, X, Y, alias, array, at, complete, give, global, global_with, id, name, over,
-    pair, pointer, put, record, structure, truth, ty, void,
+    A, B, BOOL, Case, F, I16, STRING, U16, X, Y, alias, array, at, complete, function, give, global, global_with, id,
+    name, number, pair, pointer, put, record, structure, truth, ty, void,
 };
 use crate::{layout::Place, tree::Tree};
 
@@ -79,12 +79,15 @@ fn internal_aliases(all: &mut Vec<Case>) {
 
 fn globals(all: &mut Vec<Case>) {
     put(all, "a global's value is not compared", complete(vec![global_with(X, ty(U16), truth())]));
+    let replaced = vec![global(X, array(1, ty(U16))), function(ty(BOOL), give(id(X))), global(X, ty(BOOL))];
+    put(all, "a later global replaces the earlier", complete(replaced));
+    let function_too = vec![global(F, ty(U16)), function(void(), record(65, &[], vec![id(F)]))];
+    put(all, "a function replaces a variable", complete(function_too));
     put(all, "a global in its own value", complete(vec![global_with(X, ty(U16), id(X))]));
     put(all, "a later global in an earlier value", complete(vec![global_with(X, ty(U16), id(Y)), global(Y, ty(I16))]));
     put(all, "unknown types in a struct", complete(vec![global(X, structure(vec![(X, ty(A)), (Y, pointer(ty(B)))]))]));
     let sizes = [0, 1, 65_535, 65_536, 70_000, u32::MAX];
-    let variables = sizes.iter().zip(1..).map(|(&size, name)| global(name, array(size, ty(0)))).collect();
-    put(all, "array sizes", over(&["u16"], sizes.len(), variables));
+    put(all, "array sizes", complete(sizes.map(|size| global(X, array(size, ty(U16)))).to_vec()));
     put(
         all,
         "arrays of arrays of none",
@@ -145,9 +148,13 @@ fn words(all: &mut Vec<Case>) {
     put(all, "words: a function that returns Unknown", complete(vec![returns(unknown())]));
     put(all, "words: a function that returns too many words", complete(vec![returns(large())]));
     // Each alias is a struct of two of the one before: 2^16 words from the seventeenth on.
+    let names: Vec<String> = ["u16".to_owned(), "f".to_owned(), "g".to_owned()]
+        .into_iter()
+        .chain((0..400).map(|i| format!("a{i}")))
+        .collect();
     let pair_of = |t: u32| structure(vec![(1, ty(t)), (2, ty(t))]);
     let aliases = (0..400).map(|i| alias(3 + i, 0, pair_of(if i == 0 { 0 } else { 2 + i }))).collect();
-    put(all, "words: 400 aliases, each twice the one before", over(&["u16", "f", "g"], 400, aliases));
+    put(all, "words: 400 aliases, each twice the one before", Tree::module(&names, aliases).to_bytes());
 }
 
 /// Two orders of an alias and two variables, 238 bytes each, and orders that demand 3 does not speak of.
@@ -158,6 +165,10 @@ fn orders(all: &mut Vec<Case>) {
     put(all, "joining order: alias, x, y", of([declared(), variable(2), variable(3)]));
     put(all, "joining order: alias, y, x", of([declared(), variable(3), variable(2)]));
     put(all, "joining order: x, alias, y", of([variable(2), declared(), variable(3)]));
+    let table = |size: u32| global(X, array(size, ty(U16)));
+    let reader = function(ty(U16), give(record(37, &[0], vec![id(X), number("24")])));
+    put(all, "a table declared twice, 24 then 25", complete(vec![table(24), table(25), reader.clone()]));
+    put(all, "a table declared twice, 25 then 24", complete(vec![table(25), table(24), reader]));
     put(
         all,
         "names of built-in types as variables",

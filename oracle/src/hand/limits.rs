@@ -1,8 +1,8 @@
 //! The limits: bytes, depth, rows, errors and what is lent, each met and passed by one.
 
 use super::{
-    BOOL, Case, F, M, REPORT, U16, X, Y, alias, array, at, block, complete, global, global_with, id,
-    items::example_module, module, name, number, over, pointer, put, record, structure, ty, void,
+    A, BOOL, Case, F, M, REPORT, U16, X, Y, alias, array, at, block, complete, global, global_with, id,
+    items::example_module, module, name, number, pointer, put, record, structure, ty, void,
 };
 use crate::{
     answer::ERROR_WIDTH,
@@ -79,22 +79,23 @@ fn counts(bytes: &[u8]) -> (usize, usize) {
 
 /// A module of so many rows: pointers to an alias that is stored after them are two rows a record.
 pub fn with_rows(rows: usize) -> Vec<u8> {
-    let [u16_name, late] = [0, 1];
-    // The names of the variables come behind these two.
-    let variable = |i: usize, t: Tree| global(2 + i as u32, t);
-    let chain = |i: usize, levels: usize| variable(i, (0..levels).fold(array(i as u32, ty(late)), |t, _| pointer(t)));
-    let of = |items: &[Tree], last: &[Tree]| {
-        over(&["u16", "A"], items.len() + last.len(), [items, &[alias(late, 0, ty(u16_name))], last].concat())
+    let chain = |size: u32, levels: usize| {
+        let inner = array(size, ty(A));
+        global(X, (0..levels).fold(inner, |t, _| pointer(t)))
     };
+    let of = |items: &[Tree]| complete([items, &[alias(A, 0, ty(U16))]].concat());
     let mut items = vec![];
-    while counts(&of(&items, &[])).0 + 120 <= rows {
-        items.push(chain(items.len(), 58));
+    while counts(&of(&items)).0 + 120 <= rows {
+        items.push(chain(items.len() as u32, 58));
     }
-    let left = rows - counts(&of(&items, &[])).0;
+    let left = rows - counts(&of(&items)).0;
     // An array and pointers to it before the alias, then one more row after it if the number left is odd.
-    items.push(chain(items.len(), left / 2 - 1));
-    let last = (left % 2 == 1).then(|| variable(items.len(), array(items.len() as u32, ty(u16_name))));
-    let bytes = of(&items, last.as_slice());
+    items.push(chain(1_000_000, left / 2 - 1));
+    let mut all = [&items[..], &[alias(A, 0, ty(U16))]].concat();
+    if left % 2 == 1 {
+        all.push(global(Y, array(1_000_001, ty(U16))));
+    }
+    let bytes = complete(all);
     assert_eq!(counts(&bytes).0, rows);
     bytes
 }

@@ -4,7 +4,7 @@ use std::iter;
 
 use super::{
     A, B, BOOL, Case, F, I16, M, STRING, U16, X, Y, alias, array, block, cast, complete, evaluated, function, global,
-    global_with, id, literal, name, named, over, pair, pointer, put, record, structure, ty, var, void,
+    global_with, id, literal, name, named, pair, pointer, put, record, structure, ty, var, void,
 };
 use crate::{
     layout::{HEAD, MOST_BYTES, Place},
@@ -111,37 +111,31 @@ fn built_ins(all: &mut Vec<Case>) {
     }
 }
 
-/// Modules over some names in which each kind of error that names something, but for built-in types, names the last: a name that is
-/// declared, one that is not, and one that is declared twice.
-fn naming(names: [&[u8]; 4]) -> [(&'static str, Vec<u8>); 3] {
-    let [u16_name, other, empty, of] = [0, 1, 2, 3];
-    let fields = |t: Tree| structure(vec![(of, t)]);
+/// A module over some names in which each kind of error that names something names the one of this number.
+fn naming(names: &[&[u8]], of: u32) -> Vec<u8> {
+    let [u16_name, other] = [0, 1];
+    let fields = |t: Tree| record(20, &[0], vec![record(21, &[of], vec![t])]);
     let setting = || record(50, &[of], vec![literal("1", 10)]);
-    let local = || record(66, &[of], vec![ty(u16_name)]);
     let members = vec![
-        local(),
-        local(),
-        record(65, &[], vec![record(41, &[0, of], vec![id(empty)])]),
+        record(65, &[], vec![id(of)]),
+        record(66, &[of], vec![ty(u16_name)]),
+        record(66, &[of], vec![ty(u16_name)]),
+        record(65, &[], vec![record(41, &[0, of], vec![id(other)])]),
         record(68, &[], vec![id(other), record(49, &[], vec![setting(), setting()])]),
-        record(68, &[], vec![id(empty), record(49, &[], vec![setting()])]),
         record(65, &[], vec![called(id(other))]),
     ];
-    let declared = vec![
-        global(other, fields(pointer(ty(of)))),
+    let items = vec![
+        global(other, record(20, &[0], vec![])),
+        global(of, ty(of)),
         alias(of, 2, ty(u16_name)),
         alias(of, 1, fields(ty(u16_name))),
         alias(of, 0, ty(of)),
-        global_with(empty, structure(vec![]), called(id(of))),
+        global(other, ty(of)),
+        global_with(of, ty(u16_name), called(id(other))),
+        global(other, fields(pointer(ty(of)))),
         record(80, &[of], vec![ty(u16_name), block(members)]),
     ];
-    let undeclared = vec![global_with(other, ty(of), called(id(of)))];
-    let twice = vec![
-        global(of, ty(of)),
-        record(80, &[of], vec![ty(u16_name), block(vec![])]),
-        global_with(of, ty(u16_name), called(id(of))),
-    ];
-    [("", declared), (", undeclared", undeclared), (", declared twice", twice)]
-        .map(|(what, items)| (what, Tree::module(&names, items).to_bytes()))
+    Tree::module(names, items).to_bytes()
 }
 
 fn names(all: &mut Vec<Case>) {
@@ -157,14 +151,11 @@ fn names(all: &mut Vec<Case>) {
         ("that is no UTF-8", b"\xff\x00\x80"),
     ];
     for (what, text) in texts {
-        for (declared, bytes) in naming([b"u16", b"other", b"empty", text]) {
-            put(all, format!("messages: a name {what}{declared}"), bytes);
-        }
+        put(all, format!("messages: a name {what}"), naming(&[b"u16", b"other", text], 2));
     }
     // Distinct aliases without a name, so that a type is printed as nothing.
-    let items =
-        vec![alias(1, 1, ty(0)), global_with(2, ty(1), called(id(3))), global_with(3, pointer(ty(1)), called(id(2)))];
-    put(all, "messages: a type without a text", over(&["u16", "", "x", "y"], 0, items));
+    let items = vec![alias(1, 1, ty(0)), global(2, ty(1)), global_with(2, pointer(ty(1)), called(id(2)))];
+    put(all, "messages: a type without a text", Tree::module(&["u16", "", "x"], items).to_bytes());
 }
 
 fn literals(all: &mut Vec<Case>) {
@@ -192,10 +183,11 @@ fn places(all: &mut Vec<Case>) {
 /// Numbers of each length: sizes of arrays, lengths of compounds, counts and positions of arguments.
 fn numbers(all: &mut Vec<Case>) {
     let sizes = [1, 9, 10, 11, 99, 100, 999, 1_000, 65_535, 65_536, 999_999_999, 1_000_000_000, u32::MAX];
-    let compound = |(&size, name)| global_with(name, array(size, ty(0)), record(48, &[], vec![]));
-    put(all, "messages: lengths", over(&["u16"], sizes.len(), sizes.iter().zip(1..).map(compound).collect()));
-    let casts = sizes.map(|size| called(cast(var("u"), array(size, ty(U16)))));
-    put(all, "messages: sizes of arrays", evaluated(casts.to_vec()));
+    let compounds = sizes.map(|size| global_with(X, array(size, ty(U16)), record(48, &[], vec![])));
+    put(all, "messages: lengths", complete(compounds.to_vec()));
+    let arrays = sizes.map(|size| record(47, &[0], vec![array(size, ty(U16))]));
+    let items = arrays.map(|of| global_with(X, ty(U16), called(cast(id(X), of.children[0].clone()))));
+    put(all, "messages: sizes of arrays", complete(items.to_vec()));
     for count in [9, 12, 101] {
         let mut children = vec![void()];
         children.extend((0..count).map(|_| record(85, &[X], vec![pointer(void())])));
@@ -237,16 +229,20 @@ fn last_literals() -> Vec<u8> {
 
 /// So many aliases, each of a struct of the one before twice, and a value of the last that is no function.
 pub fn doubled(count: u32) -> Vec<u8> {
+    let first = ["u16", "f", "g", "x"].map(str::to_owned);
+    let names: Vec<String> = first.into_iter().chain((0..count).map(|i| format!("a{i}"))).collect();
     let pair_of = |t: u32| structure(vec![(1, ty(t)), (2, ty(t))]);
     let mut items: Vec<Tree> = (0..count).map(|i| alias(4 + i, 0, pair_of(if i == 0 { 0 } else { 3 + i }))).collect();
-    items.push(global_with(3, ty(3 + count), called(id(3))));
-    over(&["u16", "f", "g", "x"], count as usize, items)
+    items.extend([global(3, ty(3 + count)), global_with(3, ty(3 + count), called(id(3)))]);
+    Tree::module(&names, items).to_bytes()
 }
 
 /// So many aliases, each of a pointer to the one before, and a value of the last that is no function.
 fn chained(count: u32) -> Vec<u8> {
+    let names: Vec<String> =
+        ["u16", "x"].map(str::to_owned).into_iter().chain((0..count).map(|i| format!("a{i}"))).collect();
     let inner = |i: u32| pointer(ty(if i == 0 { 0 } else { 1 + i }));
     let mut items: Vec<Tree> = (0..count).map(|i| alias(2 + i, 0, inner(i))).collect();
     items.push(global_with(1, ty(1 + count), called(id(1))));
-    over(&["u16", "x"], count as usize, items)
+    Tree::module(&names, items).to_bytes()
 }

@@ -3,7 +3,6 @@
 mod chains;
 mod expressions;
 mod faults;
-mod globals;
 mod items;
 pub mod limits;
 pub mod messages;
@@ -102,13 +101,6 @@ pub fn function(returned: Tree, body: Tree) -> Tree {
 
 pub fn module(items: Vec<Tree>) -> Vec<u8> {
     Tree::module(&NAMES, items).to_bytes()
-}
-
-/// A module over some names and so many of a number each.
-pub fn over(first: &[&str], numbered: usize, items: Vec<Tree>) -> Vec<u8> {
-    let mut names: Vec<String> = first.iter().map(|&name| name.to_owned()).collect();
-    names.extend((0..numbered).map(|i| format!("n{i}")));
-    Tree::module(&names, items).to_bytes()
 }
 
 /// The number of a name.
@@ -237,7 +229,6 @@ pub fn cases() -> Vec<Case> {
     chains::add(&mut all);
     statements::add(&mut all);
     items::add(&mut all);
-    globals::add(&mut all);
     limits::add(&mut all);
     messages::add(&mut all);
     faults::add(&mut all);

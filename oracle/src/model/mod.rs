@@ -1,8 +1,7 @@
-//! Document 01's typing rules, as document 02 changes them, over the records of a module, without the reference. Names are
-//! numbers, types are rows.
+//! Document 01's typing rules over the records of a module, without the reference. Names are numbers, types are rows.
 //!
-//! It also answers where the reference is silent: free bytes that are no UTF-8, functions and variables that share a name and
-//! are no pair, and modules on which the reference would not finish.
+//! It also answers where the reference is silent: free bytes that are no UTF-8, and modules on which the reference would
+//! not finish.
 
 mod expression;
 mod literal;
@@ -11,7 +10,7 @@ mod statement;
 use std::collections::HashMap;
 
 use crate::{
-    answer::{Answer, DUPLICATE_GLOBAL, Error, Operand},
+    answer::{Answer, Error, Operand},
     layout::{Module, Place, Record},
     pairs::Casts,
     rows::{BOOL, I16, STRING, U16, UNKNOWN, VOID},
@@ -54,10 +53,7 @@ struct Model {
     built_in: HashMap<u32, u32>,
     /// Aliases stored so far, by name.
     aliases: HashMap<u32, u32>,
-    /// The function or variable in force under a name: the first that declares it.
     globals: HashMap<u32, u32>,
-    /// Those functions in force that can still pair, and whether they have a body.
-    unpaired: HashMap<u32, bool>,
     answer: Answer,
     /// Types met in pass 1 and the operands of errors.
     touched: Vec<u32>,
@@ -89,7 +85,6 @@ impl Model {
             built_in,
             aliases: HashMap::new(),
             globals: HashMap::new(),
-            unpaired: HashMap::new(),
             answer: Answer::default(),
             touched: vec![],
             cast_work: 0,
@@ -178,38 +173,15 @@ impl Model {
                     parameters(item).map(|parameter| self.convert_early(&parameter.children[0])).collect();
                 let function = self.answer.rows.function(returned, &arguments);
                 self.touched.push(function);
-                self.declare_function(item, function);
+                self.globals.insert(item.fields[0], function);
             }
             81 => self.declare_alias(item),
             83 => {
                 let ty = self.convert_early(&item.children[0]);
-                self.declare_global(item, ty);
+                self.globals.insert(item.fields[0], ty);
             }
             _ => {}
         }
-    }
-
-    /// A function of a type. It joins the one in force if that is of the same type, is of the other sort, extern or with a body, and no
-    /// other has joined it (document 02, paper 2).
-    fn declare_function(&mut self, item: &Record, ty: u32) {
-        let (name, has_body) = (item.fields[0], item.body().is_some());
-        if self.globals.get(&name) == Some(&ty) && self.unpaired.get(&name) == Some(&!has_body) {
-            self.unpaired.remove(&name);
-        } else if self.declare_global(item, ty) {
-            self.unpaired.insert(name, has_body);
-        }
-    }
-
-    /// A function or variable that joins no other: in force if it is the first of its name, otherwise an error. Whether it is in force.
-    fn declare_global(&mut self, item: &Record, ty: u32) -> bool {
-        let name = item.fields[0];
-        let is_first = !self.globals.contains_key(&name);
-        if is_first {
-            self.globals.insert(name, ty);
-        } else {
-            self.name_error(DUPLICATE_GLOBAL, item.at, name);
-        }
-        is_first
     }
 
     fn declare_alias(&mut self, item: &Record) {
@@ -265,7 +237,7 @@ impl Model {
             arguments.insert(parameter.fields[0], ty);
         }
         let returned = self.convert(&item.children[0]);
-        let Some(body) = item.body() else { return };
+        let Some(body) = item.children.last().filter(|last| (64..=74).contains(&last.kind)) else { return };
         let mut scope = Scope { locals: HashMap::new(), arguments, returned };
         self.statement(body, &mut scope);
         if returned != VOID && !statement::diverges(body) {

@@ -18,14 +18,6 @@ pub fn both(bytes: &[u8]) -> Answer {
     spoken.answer
 }
 
-/// The model's answer where the reference is not asked, since functions or variables share a name and are no pair.
-pub fn duplicated(bytes: &[u8]) -> Answer {
-    let module = layout::read(bytes).expect("a good module");
-    let silence = reference::check(&module, Duration::from_secs(20)).map(|spoken| spoken.messages);
-    assert_eq!(silence, Err(reference::Silence::SharedNames));
-    model::check(&module).answer
-}
-
 /// The kinds of the errors of a module of these items.
 pub fn errors(items: Vec<Tree>) -> Vec<u32> {
     both(&module(items)).errors.iter().map(|error| error.kind).collect()

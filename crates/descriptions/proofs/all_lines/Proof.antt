@@ -5,7 +5,7 @@ use Rattle.descriptions.proofs.all_lines.Tie as tie
 use Rattle.descriptions.proofs.all_lines.Reads as reads
 use Rattle.descriptions.proofs.all_lines.Lts as lts
 
--- src/lib.rt:194:1
+-- src/lib.rt:192:1
 returns : tie.Need-returns
 unfolding all_lines lines_of
 returns c = refl

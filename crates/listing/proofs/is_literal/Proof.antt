@@ -5,15 +5,15 @@ use Rattle.listing.proofs.is_literal.Tie as tie
 use Rattle.listing.proofs.is_literal.Reads as reads
 use Rattle.listing.proofs.is_literal.Lts as lts
 
--- src/lib.rt:141:9
+-- src/lib.rt:116:9
 returns : tie.Need-returns
 returns c = search laws.literal_past
 
--- src/lib.rt:143:5
+-- src/lib.rt:118:5
 shared-slice-read-result : tie.Need-shared-slice-read-result
 shared-slice-read-result c = search rules
 
--- src/lib.rt:135:1
+-- src/lib.rt:110:1
 returns-2 : tie.Need-returns-2
 returns-2 c = search laws.literal_mark
 

@@ -6,39 +6,39 @@ use Rattle.listing.proofs.literal_text.Reads as reads
 use Rattle.listing.proofs.literal_text.Lts as lts
 use Rattle.record_bytes.proofs.length_at.Reads as length-at-reads
 
--- src/lib.rt:151:9
+-- src/lib.rt:126:9
 length-at-requires : tie.Need-length-at-requires
 length-at-requires c κs = search rules
 
--- src/lib.rt:153:9
+-- src/lib.rt:128:9
 slice-aggregate-result : tie.Need-slice-aggregate-result
 slice-aggregate-result c = search rules
 
--- src/lib.rt:153:9
+-- src/lib.rt:128:9
 returns : tie.Need-returns
 returns c = search laws.literal_short
 
--- src/lib.rt:155:16
+-- src/lib.rt:130:16
 add-stop : tie.Need-overflow-add-stop
 add-stop c = search rules
 
--- src/lib.rt:156:17
+-- src/lib.rt:131:17
 add_start : tie.Need-overflow-add-start
 add_start c = search rules
 
--- src/lib.rt:157:5
+-- src/lib.rt:132:5
 sub-result : tie.Need-overflow-sub-result
 sub-result c = search rules
 
--- src/lib.rt:157:5
+-- src/lib.rt:132:5
 part-result-start : tie.Need-slice-bounds-result-start
 part-result-start c = search rules
 
--- src/lib.rt:157:5
+-- src/lib.rt:132:5
 part-result-end : tie.Need-slice-bounds-result-end
 part-result-end c = search rules
 
--- src/lib.rt:147:1
+-- src/lib.rt:122:1
 returns-2 : tie.Need-returns-2
 returns-2 c = search laws.literal_digits
 

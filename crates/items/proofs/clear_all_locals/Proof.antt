@@ -1,12 +1,12 @@
--- `clear_locals::clear_all_locals` meets its contract. The loop: the words before `i` are done. Assumes nothing.
-use Rattle.clear_locals.proofs.AllLocals as laws
+-- `items::clear_all_locals` meets its contract. The loop: the words before `i` are done. Assumes nothing.
+use Rattle.items.proofs.Locals as laws
 use lib.ListN.{length}
 use Prim.Native.Nat.{◌+◌, ◌-◌, ◌%◌, ◌≤◌}
 use mathlib.Core.Path.{◌≡◌}
 use native.Mathlib.Omega.{arith}
 use borrow.Author.Rules.{rules}
-use Rattle.clear_locals.proofs.clear_all_locals.Statement.{statement}
-use Rattle.clear_locals.proofs.clear_all_locals.Tie as tie
+use Rattle.items.proofs.clear_all_locals.Statement.{statement}
+use Rattle.items.proofs.clear_all_locals.Tie as tie
 
 abbrev invariant-loop : tie.invariant-loop
 invariant-loop work₀ i₀ work i = laws.Clearing work₀ i work × (i % 4 ≡ 2) × (i ≤ length work₀ + 2)
