@@ -1,4 +1,6 @@
 // Calls, once their arguments are typed. The rows of a list are read back from the slots of its records.
+#![tactic(auto)]
+
 ghost use Rattle.std.specs.Prelude.{◌+◌, ◌≤◌, length};
 ghost use Rattle.record_bytes.specs.Bytes.{head_end};
 ghost use Rattle.contract.specs.Moments.{old, final};

@@ -1,4 +1,6 @@
 // Clears the working words of the names that a function declares, and no others.
+#![tactic(auto)]
+
 ghost use Rattle.std.specs.Prelude.{◌*◌, ◌≤◌, ◌≡◌, length};
 ghost use Rattle.contract.specs.Moments.{old, final};
 ghost use Rattle.shape.specs.Shape.{a_statement};

@@ -1,4 +1,6 @@
 // `type_check_compound_assignment`: the slots of a compound's values, and its errors for a target of a type.
+#![tactic(auto)]
+
 ghost use Rattle.contract.specs.Moments.{old};
 ghost use Rattle.shape.specs.Shape.{a_compound};
 ghost use Rattle.shape.specs.declared.Holds.TheVariants.{CompoundFields};

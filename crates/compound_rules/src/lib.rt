@@ -1,4 +1,6 @@
 // Compounds, once their elements or the values of their fields are typed. The rows of these are read back from their slots.
+#![tactic(auto)]
+
 ghost use Rattle.std.specs.Prelude.{◌+◌, ◌^◌, ◌≤◌, ◌<◌, length, replicate, ◌≡◌};
 ghost use Rattle.contract.specs.Moments.{old, final};
 ghost use Rattle.types.specs.Ty.{struct_kind, kind_of};

@@ -1,4 +1,6 @@
 // `convert_node_type`: type records to type rows.
+#![tactic(auto)]
+
 ghost use Rattle.std.specs.Prelude.{◌≡◌, ◌+◌, ◌*◌, ◌<◌, ◌≤◌, length};
 ghost use Rattle.contract.specs.Moments.{old, final};
 ghost use Rattle.row_index.specs.Index.{Indexed};
@@ -32,7 +34,7 @@ use types::Row;
 use walk::{State, Typed};
 
 // A pass of the check: the numbers of the built-in names, and whether it fills the slots, as pass 2 does.
-#[derive(Drop)]
+#[derive(Clone, Copy)]
 pub struct Pass {
     pub names: BuiltIns,
     pub fill: bool,
@@ -44,7 +46,7 @@ const CHUNK: usize = 32;
 const KEPT: usize = 64;
 
 // The first members of a list, converted: how many, from where on the others stand, and the state after them.
-#[derive(Drop)]
+#[derive(Clone, Copy)]
 pub struct Chunk {
     pub count: usize,
     pub from: usize,
@@ -52,7 +54,7 @@ pub struct Chunk {
 }
 
 // A field's name, and where the next one stands.
-#[derive(Drop)]
+#[derive(Clone, Copy)]
 pub struct FieldHead {
     pub name: u32,
     pub next: usize,

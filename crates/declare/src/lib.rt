@@ -1,4 +1,6 @@
 // Pass 1 of `type_check_module`: the declared types of the items.
+#![tactic(auto)]
+
 ghost use Rattle.std.specs.Prelude.{◌≡◌, ◌*◌, ◌≤◌, length};
 ghost use Rattle.contract.specs.Moments.{old, final};
 ghost use Rattle.row_index.specs.Index.{Indexed};

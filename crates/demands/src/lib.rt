@@ -1,11 +1,13 @@
 // The request's demands, as the contract of two calls of the entry.
+#![tactic(auto)]
+
 ghost use Rattle.type_check.specs.Post.{outcome_of};
 ghost use Rattle.demands.specs.Demands.{run_of, Demands};
 
 use type_check::{Answer, type_check_module};
 
 // The answers of two calls.
-#[derive(Drop)]
+#[derive(Clone, Copy)]
 pub struct Answers {
     pub first: Answer,
     pub second: Answer,

@@ -1,4 +1,6 @@
 // What the descriptions of errors are made of: the letters that stand for what is printed, and the operators.
+#![tactic(auto)]
+
 ghost use Rattle.std.specs.Prelude.{◌≡◌, ◌<◌, length};
 ghost use Rattle.contract.specs.Moments.{old, final};
 ghost use Rattle.fallible.specs.Errors.{error_width};
@@ -8,7 +10,7 @@ ghost use Rattle.descriptions.specs.Descriptions.{piece_of, word_of, operator_te
 ghost use Rattle.descriptions.specs.Descriptions.{all_lines, LineStands};
 
 // What a byte of a description stands for: itself, or what is printed in its place.
-#[derive(Drop)]
+#[derive(Clone, Copy)]
 pub enum Piece {
     Fixed,
     Name,
@@ -142,7 +144,7 @@ const LINES: [u8; LENGTH] = *b"unknown type `N`\n\
     target of array compound assignment cannot be `T`\n\
     target of struct compound assignment has no field named `N`\n\
     target of struct compound assignment cannot be `T`\n\
-    #[derive(Drop)]
+    #[derive(Clone, Copy)]
     struct compound assigns `N` more than once\n";
 
 // Where the line of each kind starts, from kind 0, which has none, and where the last ends; of how many kinds.
@@ -154,7 +156,7 @@ const STARTS: [usize; KINDS + 1] = [
 ];
 
 // Where the line of a kind stands among the lines.
-#[derive(Drop)]
+#[derive(Clone, Copy)]
 pub struct Bounds {
     pub start: usize,
     pub end: usize,

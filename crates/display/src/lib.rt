@@ -1,4 +1,6 @@
 // `Display` of types, as bytes in a lent text: the lengths of all rows first, then the text of a row.
+#![tactic(auto)]
+
 ghost use Rattle.std.specs.Prelude.{◌≡◌, [], ◌≤◌, ◌-◌, length};
 ghost use Rattle.contract.specs.Moments.{old, final};
 ghost use Rattle.types.specs.Ty.{unknown_kind, pointer_kind, array_kind, alias_kind, field_kind};
@@ -20,7 +22,7 @@ use types::{
 };
 
 // The rows of the parts in a row's text and their places: the first stands at `front`, the second at `back`; 0 for no row.
-#[derive(Drop)]
+#[derive(Clone, Copy)]
 struct Inner {
     first: u32,
     front: usize,

@@ -1,5 +1,7 @@
 // `do_all_paths_diverge`: whether no path through a statement goes on after it. `find_break` is `find_statement`,
 // looking for a break.
+#![tactic(auto)]
+
 ghost use Rattle.std.specs.Prelude.{◌≡◌};
 ghost use Rattle.contract.specs.Moments.{old};
 ghost use Rattle.shape.specs.Shape.{a_statement};

@@ -1,5 +1,7 @@
 // Prints all that the checker finds in the module on standard input: a line for each row, each slot and each error, or
 // why it is turned back.
+#![tactic(auto)]
+
 use fallible::ERROR_WIDTH;
 use libc::STDIN_FILENO;
 use program_support::loans;

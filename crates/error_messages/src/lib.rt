@@ -1,4 +1,6 @@
 // The errors of a module as text: the reference's description of each, a line an error.
+#![tactic(auto)]
+
 mod built_in;
 mod length;
 mod readable;
@@ -22,7 +24,7 @@ use module_tests::{Refusal, module_refusal};
 use text::LONGEST;
 
 // How long the text is, or why there is none.
-#[derive(Drop)]
+#[derive(Clone, Copy)]
 pub enum Answer {
     Written(usize),
     Refused { number: u32, place: usize },

@@ -1,6 +1,8 @@
 // The entries for C and Rust callers: numbers and slices alone, a slice as a pointer and then a length. Each returns 0
 // if the call is accepted, else the number of the refusal, and writes every value it answers through a `&mut`; a value
 // that the answer has not is 0. Nothing is asked of the caller but what `&` and `&mut` mean.
+#![tactic(auto)]
+
 ghost use Rattle.std.specs.Prelude.{◌≡◌};
 ghost use Rattle.contract.specs.Moments.{old, final};
 ghost use Rattle.types.specs.Table.{unfolded};

@@ -1,4 +1,6 @@
 // `type_check_expression`: the type that an expression carries, its errors, and its slots.
+#![tactic(auto)]
+
 ghost use Rattle.std.specs.Prelude.{◌≡◌};
 ghost use Rattle.contract.specs.Moments.{old, final};
 ghost use Rattle.shape.specs.Kinds as kinds;

@@ -1,4 +1,6 @@
 // The error list of a check: words in a lent slice, and a count.
+#![tactic(auto)]
+
 pub mod kinds;
 
 ghost use Rattle.std.specs.Prelude.{◌≡◌};
@@ -10,7 +12,7 @@ pub const ERROR_WIDTH: usize = 8;
 
 // An error: its kind, where it stands, and what its message names; operands that a kind does not use are 0. Of a bad
 // literal the place is that of its record in the file, else 0.
-#[derive(Drop)]
+#[derive(Clone, Copy)]
 pub struct Error {
     pub kind: u32,
     pub file: u32,

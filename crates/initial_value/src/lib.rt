@@ -1,4 +1,6 @@
 // The value that a variable starts with.
+#![tactic(auto)]
+
 ghost use Rattle.contract.specs.Moments.{old};
 ghost use Rattle.node.specs.Fine.{FineList};
 ghost use Rattle.shape.specs.declared.Holds.TheVariants.{InitialValue};
@@ -18,7 +20,7 @@ use walk::State;
 
 // A variable's value, if there is one: where it starts and ends, the levels that are left for it, the type row of the
 // variable, and whether a plain value is compared with that type; a compound is in any case.
-#[derive(Drop)]
+#[derive(Clone, Copy)]
 pub struct Value {
     pub from: usize,
     pub end: usize,

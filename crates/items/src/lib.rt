@@ -1,4 +1,6 @@
 // Pass 2: the slots and the errors of items, one at a time.
+#![tactic(auto)]
+
 ghost use Rattle.std.specs.Prelude.{◌*◌, ◌≤◌, ◌≡◌, ◌||◌, eqb, length};
 ghost use Rattle.contract.specs.Moments.{old, final};
 ghost use Rattle.shape.specs.Kinds as kinds;
@@ -31,14 +33,14 @@ use statement::{Function, type_check_statement};
 use walk::State;
 
 // Where the parameters of a function end, and the state then.
-#[derive(Drop)]
+#[derive(Clone, Copy)]
 struct ParametersEnd {
     at: usize,
     state: State,
 }
 
 // What is left of the function at `at` after its parameters: its body, or nothing.
-#[derive(Drop)]
+#[derive(Clone, Copy)]
 struct Body {
     at: usize,
     left: Nodes,

@@ -1,4 +1,6 @@
 // The walk over a module's layout: refusals 1 to 3.
+#![tactic(auto)]
+
 ghost use Rattle.std.specs.Prelude.{◌≡◌, ◌+◌, ◌≤◌, length};
 ghost use Rattle.contract.specs.Moments.{old};
 ghost use Rattle.layout.specs.Layout.{Part, is_bad, head_at, LayoutOfList, layout_refusal};
@@ -15,7 +17,7 @@ pub const MAX_BYTES: usize = 65536;
 
 pub const MAX_DEPTH: usize = 64;
 
-#[derive(Drop)]
+#[derive(Clone, Copy)]
 pub enum Layout {
     Good,
     TooLong,
@@ -25,7 +27,7 @@ pub enum Layout {
 
 // The head of a record: where its children start and stop, their state, and the state of the list after the record; or
 // the place of a fault.
-#[derive(Drop)]
+#[derive(Clone, Copy)]
 pub enum Head {
     Body(usize, usize, Holds, Holds),
     Wrong(usize),

@@ -1,5 +1,7 @@
 // Judges modules by tests 1 to 4, and prints a line for each: `good`, or `refused 2 at 40`. Standard input is a list
 // of commands (tools/layout_cases.py).
+#![tactic(auto)]
+
 ghost use Rattle.std.specs.Prelude.{◌≡◌, ◌<◌, ◌≤◌, length};
 
 use layout::Layout;
@@ -11,7 +13,7 @@ use program_support::print::{BUFFER, flush, put_refused, put_text};
 const ROOM: usize = 70000;
 
 // What tests 1 to 4 say of a module, if they are asked.
-#[derive(Drop)]
+#[derive(Clone, Copy)]
 enum Verdict {
     NotAsked,
     Good,
@@ -66,7 +68,7 @@ fn read_byte() -> u8 {
 }
 
 // After a command: the length of the base, and the verdict.
-#[derive(Drop)]
+#[derive(Clone, Copy)]
 struct Step {
     n: usize,
     verdict: Verdict,

@@ -1,4 +1,6 @@
 // Where the names and the integer literals of a module stand.
+#![tactic(auto)]
+
 ghost use Rattle.std.specs.Prelude.{◌≡◌, ◌≤◌, length, replicate};
 ghost use Rattle.contract.specs.Moments.{old, final};
 ghost use Rattle.rows.specs.Search.{Decides};

@@ -1,4 +1,6 @@
 // Integer literals: `u16::from_str_radix` on bytes.
+#![tactic(auto)]
+
 pub mod digits;
 
 ghost use Rattle.std.specs.Prelude.{◌≡◌, ◌≤◌};
@@ -9,7 +11,7 @@ ghost use Rattle.literal.specs.Digits.{DigitTable};
 use digits::{BYTES, put_digits};
 
 // What reading a literal finds.
-#[derive(Drop)]
+#[derive(Clone, Copy)]
 pub enum Parsed {
     Value(u16),
     Invalid,

@@ -1,6 +1,8 @@
 // Reads literals by `literal::from_str_radix`: first every text of one byte in every base up to 38, then the texts of
 // standard input. Each base has a line with the bytes that have a value, `2 48=0 49=1`; each line `BASE TEXT` of the
 // input has one with the value, or `invalid` (`oracle literals` makes the input, and what is to be printed).
+#![tactic(auto)]
+
 ghost use Rattle.std.specs.Prelude.{◌≡◌};
 ghost use Rattle.contract.specs.Moments.{old, final};
 ghost use Rattle.literal.specs.Literal.{parsed_value};
@@ -82,7 +84,7 @@ fn put_bases(buffer: &mut [u8], used: usize) -> usize
 }
 
 // The base of a case.
-#[derive(Drop)]
+#[derive(Clone, Copy)]
 enum Base {
     Is(u32),
     None,

@@ -1,5 +1,7 @@
 // Prints the message of each error in the module on standard input, a line an error, or why the module is turned back.
 // It lends what document 01's report program lends, a working word a row, and room for the longest text.
+#![tactic(auto)]
+
 ghost use Rattle.std.specs.Prelude.{◌≡◌, replicate};
 
 use libc::STDIN_FILENO;

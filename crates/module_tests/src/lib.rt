@@ -1,4 +1,6 @@
 // Tests 1 to 4, which look at a module alone: its length, its layout, its depth, its names.
+#![tactic(auto)]
+
 ghost use Rattle.std.specs.Prelude.{◌≡◌};
 ghost use Rattle.contract.specs.Moments.{old};
 ghost use Rattle.names.specs.Names.{name_test};
@@ -9,7 +11,7 @@ use name_index::repeated_name;
 use names::Repeated;
 
 // Why a module is turned back, if it is.
-#[derive(Drop)]
+#[derive(Clone, Copy)]
 pub enum Refusal {
     Never,
     Because { number: u32, place: usize },

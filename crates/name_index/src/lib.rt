@@ -1,4 +1,6 @@
 // Test 4: the first name that is equal to an earlier one, by an index of the names.
+#![tactic(auto)]
+
 ghost use Rattle.std.specs.Prelude.{◌≡◌, ◌+◌, ◌≤◌, length};
 ghost use Rattle.contract.specs.Moments.{old};
 ghost use Rattle.record_bytes.specs.Bytes.{head_size, field_size};

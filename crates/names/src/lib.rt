@@ -1,4 +1,6 @@
 // The names of a module: the records in its record 2, numbered from 0.
+#![tactic(auto)]
+
 ghost use Rattle.std.specs.Prelude.{◌≡◌, ◌+◌, ◌≤◌, length};
 ghost use Rattle.contract.specs.Moments.{old};
 ghost use Rattle.record_bytes.specs.Bytes.{word_at, head_size, field_size, head_end};
@@ -7,14 +9,14 @@ ghost use Rattle.names.specs.Names.{Following, NamesEnd, name_bytes, name_count,
 use record_bytes::{FIELD_END, HEAD_END, length_at};
 
 // The first name that is equal to an earlier one.
-#[derive(Drop)]
+#[derive(Clone, Copy)]
 pub enum Repeated {
     Nowhere,
     At(usize),
 }
 
 // The numbers of the built-in types' names; of one that is no name, the number of names.
-#[derive(Drop)]
+#[derive(Clone, Copy)]
 pub struct BuiltIns {
     pub u16: u32,
     pub i16: u32,

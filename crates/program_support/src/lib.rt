@@ -1,4 +1,6 @@
 // What the programs share: printing on standard output, and the walk over the records that have a slot.
+#![tactic(auto)]
+
 pub mod loans;
 pub mod print;
 pub mod slots;

@@ -1,5 +1,7 @@
 // The questions about rows that somebody lends: assignable, castable with the number of pairs that were tried, words.
 // Each tests the rows first (test 8) and asks nothing of its caller.
+#![tactic(auto)]
+
 ghost use Rattle.std.specs.Prelude.{◌≡◌, map};
 ghost use Rattle.contract.specs.Moments.{old};
 ghost use Rattle.types.specs.Table.{Decides, unfolded};
@@ -11,28 +13,28 @@ ghost use Rattle.queries.specs.Entry.{Answers, Measures, answered_of, searched_o
 use relations::{WordSize, cast_fits, types_are_assignable, word_size};
 
 // What the search of a cast finds: whether a pair fits, and how many were tried, the one that fits included.
-#[derive(Drop)]
+#[derive(Clone, Copy)]
 pub struct CastSearch {
     pub fits: bool,
     pub pairs: u64,
 }
 
 // What `assignable` answers.
-#[derive(Drop)]
+#[derive(Clone, Copy)]
 pub enum Answer {
     Is(bool),
     Refused,
 }
 
 // What `castable` answers.
-#[derive(Drop)]
+#[derive(Clone, Copy)]
 pub enum CastAnswer {
     Searched(CastSearch),
     Refused,
 }
 
 // What `words` answers.
-#[derive(Drop)]
+#[derive(Clone, Copy)]
 pub enum Measured {
     Size(WordSize),
     Refused,

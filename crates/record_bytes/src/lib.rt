@@ -1,4 +1,6 @@
 // Numbers of one, two and four bytes, least byte first.
+#![tactic(auto)]
+
 ghost use Rattle.std.specs.Prelude.{◌+◌, ◌<◌, ◌≤◌, length};
 ghost use Rattle.contract.specs.Moments.{old};
 ghost use Rattle.record_bytes.specs.Bytes.{Read, byte_at, half_at, word_at};

@@ -1,5 +1,7 @@
 // The errors as records with named fields: `type_check_module`, and a list of records filled from the words of its
 // errors.
+#![tactic(auto)]
+
 ghost use Rattle.std.specs.Prelude.{◌≡◌, ◌+◌, ◌*◌, ◌≤◌, length};
 ghost use Rattle.contract.specs.Moments.{old, final};
 ghost use Rattle.fallible.specs.Errors.{error_width, error_at};

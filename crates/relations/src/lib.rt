@@ -1,5 +1,7 @@
 // Relations between the types of rows: assignable, castable, and the words of a type.
 // A row is known only by the questions of the crate `types`.
+#![tactic(auto)]
+
 ghost use Rattle.std.specs.Prelude.{◌≡◌, ◌+◌};
 ghost use Rattle.contract.specs.Moments.{old};
 ghost use Rattle.types.specs.Table.{unfolded};
@@ -17,7 +19,7 @@ const LARGEST: u32 = 65535;
 const NO_ROW: u32 = 0;
 
 // How many words a type has.
-#[derive(Drop)]
+#[derive(Clone, Copy)]
 pub enum WordSize {
     Words(u32),
     TooLarge,

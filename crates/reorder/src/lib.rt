@@ -1,4 +1,6 @@
 // A module with its items in another order, which a number decides.
+#![tactic(auto)]
+
 ghost use Rattle.std.specs.Prelude.{◌≡◌, ◌++◌, ◌+◌, ◌<◌, ◌≤◌, length, drop};
 ghost use Rattle.std.proofs.Math.Seq.{paste};
 ghost use Rattle.contract.specs.Moments.{old, final};
@@ -12,7 +14,7 @@ use node::items_start;
 use record_bytes::length_at;
 
 // The answer: the module is written, or turned back for a reason and at a place.
-#[derive(Drop)]
+#[derive(Clone, Copy)]
 pub enum Answer {
     Written,
     Refused { number: u32, place: usize },

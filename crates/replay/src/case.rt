@@ -52,7 +52,7 @@ pub(crate) fn size(case: &[u8], i: usize) -> usize
 }
 
 // Where the parts of a case start and where the last ends.
-#[derive(Drop)]
+#[derive(Clone, Copy)]
 pub(crate) struct Parts {
     pub rows: usize,
     pub errors: usize,

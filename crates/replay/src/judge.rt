@@ -13,7 +13,7 @@ use fallible::ERROR_WIDTH;
 use type_check::{Answer, type_check_module};
 
 // What becomes of a case: it is accepted or refused as expected, or it differs.
-#[derive(Drop)]
+#[derive(Clone, Copy)]
 pub(crate) enum Verdict {
     Good,
     Refused,

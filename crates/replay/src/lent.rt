@@ -102,7 +102,7 @@ pub(crate) fn are_kept_bytes(bytes: &[u8], from: usize) -> bool {
 }
 
 // How far the checker writes in what is lent.
-#[derive(Drop)]
+#[derive(Clone, Copy)]
 struct Written {
     output: usize,
     rows: usize,

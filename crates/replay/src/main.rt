@@ -1,5 +1,7 @@
 // Runs the checker and `messages` on cases whose answers are known, and prints a line for each of the first that
 // differ, then how many were accepted and refused as expected and how many differ. Standard input is a list of cases (src/case.rt).
+#![tactic(auto)]
+
 mod case;
 mod errors;
 mod expected;
@@ -43,7 +45,7 @@ fn read_case(case: &mut [u8]) -> usize
 }
 
 // How many cases are accepted and refused as expected, and how many differ.
-#[derive(Drop)]
+#[derive(Clone, Copy)]
 struct Tally {
     good: u32,
     refused: u32,

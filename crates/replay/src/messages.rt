@@ -35,7 +35,7 @@ const TEXT: usize = 12;
 const TOO_LONG: u32 = 9;
 
 // Where the parts of such a case start and where the last ends.
-#[derive(Drop)]
+#[derive(Clone, Copy)]
 struct Parts {
     rows: usize,
     errors: usize,

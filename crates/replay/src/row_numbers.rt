@@ -4,7 +4,7 @@ use crate::expected::{number_of, word_of};
 use rows::ROW_WIDTH;
 
 // The words of a row.
-#[derive(Drop)]
+#[derive(Clone, Copy)]
 struct Row {
     kind: u32,
     first: u32,

@@ -1,5 +1,7 @@
 // The report program of document 01: reads a module from standard input, and prints how many rows and errors it has,
 // then kind, file, line and column of each error; or why it is turned back.
+#![tactic(auto)]
+
 ghost use Rattle.std.specs.Prelude.{◌≡◌, ◌≤◌, length, replicate, take};
 ghost use Rattle.contract.specs.Moments.{old, final};
 ghost use Rattle.type_check.specs.Post.{buffers_before, buffers_after, outcome_of};
@@ -18,7 +20,7 @@ use records::type_check_module_records;
 use type_check::Answer;
 
 // The answer, and the list of error records that was lent for it.
-#[derive(Drop)]
+#[derive(Clone, Copy)]
 struct Report {
     answer: Answer,
     errors: [Error; ERROR_COUNT],

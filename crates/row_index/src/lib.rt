@@ -1,6 +1,8 @@
 // Rows looked up by a hash of their words. Of each bucket the highest row is kept, and of each row the one before it
 // in its bucket. Rows that find no place in the index are looked for one after the other. Behind the rows the index has
 // the table of digits, for the literals: every walk is lent the index.
+#![tactic(auto)]
+
 ghost use Rattle.std.specs.Prelude.{◌≡◌, ◌*◌, ◌≤◌, ◌<◌, length};
 ghost use Rattle.contract.specs.Moments.{old, final};
 ghost use Rattle.rows.specs.Row.{row_width, Distinct};

@@ -1,4 +1,6 @@
 // Rows of five words in a slice, numbered from 1: read, looked for and stored. What they mean is told in `types`.
+#![tactic(auto)]
+
 ghost use Rattle.std.specs.Prelude.{◌≡◌, ◌+◌, ◌*◌, ◌≤◌, ◌<◌, length};
 ghost use Rattle.contract.specs.Moments.{old, final};
 ghost use Rattle.rows.specs.Row.{words, row_width, row_from, row_at, size_word_at, stored};
@@ -8,7 +10,7 @@ ghost use Rattle.rows.specs.Search.{Decides, KeyOf, NoneWith, Skipped, NextWith,
 pub const ROW_WIDTH: usize = 5;
 
 // The first four words of a row: they tell rows apart.
-#[derive(Drop)]
+#[derive(Clone, Copy)]
 pub struct Words {
     pub kind: u32,
     pub first: u32,
@@ -30,7 +32,7 @@ impl Words {
 }
 
 // A word of a row, and its place in it.
-#[derive(Drop)]
+#[derive(Clone, Copy)]
 struct Key {
     place: usize,
     word: u32,

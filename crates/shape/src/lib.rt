@@ -1,4 +1,6 @@
 // Document 01's list of records: the shape of each kind, and what is due in each state of a child list.
+#![tactic(auto)]
+
 pub mod kinds;
 
 ghost use Rattle.std.specs.Prelude.{◌≡◌, ◌≤◌};
@@ -33,7 +35,7 @@ pub const PARAMETER: u32 = kinds::PARAMETER;
 
 // What a field of four bytes may hold: nothing is there; 0; the number of a name; any value; 2 to 36; 0 or 1; 1 to 8;
 // 1 to 5; 0 to 3.
-#[derive(Drop)]
+#[derive(Clone, Copy)]
 pub enum Rule {
     Unused,
     Slot,
@@ -49,7 +51,7 @@ pub enum Rule {
 // What a record holds after its fields, or what is left of that: the state of a child list. CallParts are E, then Es;
 // a Declaration is T, then an InitialValue: nothing, E or C; IfParts are E, S, perhaps S; FunctionParts are T, then
 // Parameters: records 85, then S or nothing.
-#[derive(Drop)]
+#[derive(Clone, Copy)]
 pub enum Holds {
     Nothing,
     FreeBytes,
@@ -81,7 +83,7 @@ pub enum Holds {
 }
 
 // The shape of a kind: its class, how many fields it has, their rules, and what it holds after them.
-#[derive(Drop)]
+#[derive(Clone, Copy)]
 pub struct Shape {
     pub class: u32,
     pub fields: usize,
@@ -92,7 +94,7 @@ pub struct Shape {
 
 // What is due in a state: free bytes, or a record of one of two classes (0: none), each with the state after it. The
 // list may end or not.
-#[derive(Drop)]
+#[derive(Clone, Copy)]
 pub struct Due {
     pub free: bool,
     pub ends: bool,

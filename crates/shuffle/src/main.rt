@@ -1,5 +1,7 @@
 // Writes the module on standard input with its items in another order, which a number decides:  shuffle 7 < module >
 // other What is wrong with the number or the module is written to standard error, and then nothing to standard output.
+#![tactic(auto)]
+
 ghost use Rattle.std.specs.Prelude.{◌≤◌, length};
 
 use layout::MAX_BYTES;
@@ -9,7 +11,7 @@ use reorder::{Answer, MODULUS};
 // A byte more than a module may have, so that a longer one is turned back.
 const ROOM: usize = MAX_BYTES + 1;
 
-#[derive(Drop)]
+#[derive(Clone, Copy)]
 enum Number {
     Is(usize),
     None,

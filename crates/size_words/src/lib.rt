@@ -1,4 +1,6 @@
 // The fifth word of a row, its size: how many words its type has, or one of two words that stand for no number.
+#![tactic(auto)]
+
 ghost use Rattle.std.specs.Prelude.{◌≡◌};
 ghost use Rattle.size_words.specs.SizeWords.{capped, known, array_word, field_word};
 

@@ -1,4 +1,6 @@
 // `type_check_statement`: a statement's slots and errors, and the locals that it declares.
+#![tactic(auto)]
+
 ghost use Rattle.std.specs.Prelude.{◌≡◌, ◌-◌, ◌<◌, ◌≤◌, length};
 ghost use Rattle.contract.specs.Moments.{old, final};
 ghost use Rattle.shape.specs.Kinds as kinds;
@@ -32,7 +34,7 @@ use shape::kinds::{
 use walk::{State, Typed};
 
 // What stays the same in a function: the numbers of the built-in names, and the row of the type that it returns.
-#[derive(Drop)]
+#[derive(Clone, Copy)]
 pub struct Function {
     pub names: BuiltIns,
     pub returned: u32,

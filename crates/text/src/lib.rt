@@ -1,4 +1,6 @@
 // Bytes written into a lent text, and lengths of texts counted no further than one past the longest.
+#![tactic(auto)]
+
 ghost use Rattle.std.specs.Prelude.{◌≡◌, length};
 ghost use Rattle.contract.specs.Moments.{old, final};
 ghost use Rattle.text.specs.Text.{decimal};

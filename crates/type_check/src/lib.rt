@@ -1,5 +1,7 @@
 // `type_check_module`: the tests that turn a module back, then pass 1 over the items' declared types and pass 2 over
 // the items.
+#![tactic(auto)]
+
 ghost use Rattle.std.specs.Prelude.{◌≡◌, true, false, ◌≤◌, ◌*◌, ◌++◌, length, replicate, drop};
 ghost use Rattle.contract.specs.Moments.{old, final};
 ghost use Rattle.names.specs.Names.{name_count};
@@ -18,7 +20,7 @@ use node::{Nodes, items_start};
 use walk::{State, WORK_WIDTH};
 
 // The answer: how many rows and errors there are, or why the module is turned back and where.
-#[derive(Drop)]
+#[derive(Clone, Copy)]
 pub enum Answer {
     Accepted { rows: u32, errors: usize },
     Refused { number: u32, place: usize },

@@ -1,5 +1,7 @@
 // The table of type rows in a lent slice, rows numbered from 1, no two alike.
 // Whoever calls these functions knows a row only by the type that it unfolds to.
+#![tactic(auto)]
+
 ghost use Rattle.std.specs.Prelude.{◌≡◌, ◌+◌, ◌*◌, ◌≤◌, ◌<◌, length};
 ghost use Rattle.contract.specs.Moments.{old, final};
 ghost use Rattle.row_index.specs.Index.{RowsIndexed, with_rows};
@@ -92,7 +94,7 @@ pub const FIXED_WORDS: [u32; FIXED_LENGTH] = [
 ];
 
 // What the first or the second word of a row is: 0, a type row, a size, or a list of cells.
-#[derive(Drop)]
+#[derive(Clone, Copy)]
 pub enum PartKind {
     Unused,
     TypeRow,
@@ -102,7 +104,7 @@ pub enum PartKind {
 }
 
 // A row to be found or added: its kind and parts.
-#[derive(Drop)]
+#[derive(Clone, Copy)]
 pub enum Row {
     Pointer(u32),
     Array { element: u32, size: u32 },
@@ -115,7 +117,7 @@ pub enum Row {
 }
 
 // The answer of `intern`: the row's number and the new count, or no room for one more row.
-#[derive(Drop)]
+#[derive(Clone, Copy)]
 pub enum Interned {
     At { number: u32, count: u32 },
     Full,

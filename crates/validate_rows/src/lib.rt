@@ -1,4 +1,6 @@
 // Whether rows that somebody lends keep the rules of a table (document 01, "Type rows").
+#![tactic(auto)]
+
 ghost use Rattle.std.specs.Prelude.{◌≡◌, ◌+◌, ◌*◌, ◌^◌, ◌≤◌, ◌<◌, length};
 ghost use Rattle.contract.specs.Moments.{old};
 ghost use Rattle.rows.specs.Row.{row_width, size_word_at};

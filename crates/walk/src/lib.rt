@@ -1,4 +1,6 @@
 // What a walk of the checker has done so far: counts by value, words in lent slices, and the primitive steps on them.
+#![tactic(auto)]
+
 ghost use Rattle.std.specs.Prelude.{◌≡◌, ◌+◌, ◌*◌, ◌<◌, ◌≤◌, length, get_or, set};
 ghost use Rattle.contract.specs.Moments.{old, final};
 ghost use Rattle.walk.specs.Words.{slot_stored, word_place, slot_end};
@@ -11,7 +13,7 @@ use record_bytes::HEAD_END;
 use types::{Interned, Row};
 
 // How many errors and rows there are, and whether a row found no room.
-#[derive(Drop)]
+#[derive(Clone, Copy)]
 pub struct State {
     pub errors: usize,
     pub rows: u32,
@@ -19,7 +21,7 @@ pub struct State {
 }
 
 // A row number, and the state after it was found.
-#[derive(Drop)]
+#[derive(Clone, Copy)]
 pub struct Typed {
     pub ty: u32,
     pub state: State,
