@@ -3,7 +3,6 @@
 
 ghost use Rattle.std.specs.Prelude.{◌+◌, ◌≤◌, length};
 ghost use Rattle.record_bytes.specs.Bytes.{head_end};
-ghost use Rattle.contract.specs.Moments.{old, final};
 ghost use Rattle.types.specs.Ty.{argument_kind};
 ghost use Rattle.types.specs.Table.{IsCell, Table};
 ghost use Rattle.relations.specs.TypeRows.{OneType};
@@ -18,7 +17,7 @@ use walk::{State, Typed};
 // How many records stand from `from` to `end`.
 pub fn count_records(s: &[u8], from: usize, end: usize) -> u32
     requires { RecordsListed s.now from end }
-    ensures { CountsRecords (old s) from end result }
+    ensures { CountsRecords s.now from end result }
 {
     let mut at = from;
     let mut count: u32 = 0;
@@ -44,9 +43,9 @@ fn check_arguments(
 ) -> State
     requires at_in_bounds { (head_end at ≤ length s.now) × SlotsFilled rows.now state.rows s.now output.now from end }
     requires table { Table rows.now state.rows × IsCell rows.now state.rows argument_kind cells }
-    ensures { CheckArguments (old s) at from end cells
-        (old output) (old rows) (old errors) state
-        (final errors) result }
+    ensures { CheckArguments s.now at from end cells
+        output.now rows.now errors.old state
+        errors.new result }
 {
     let mut place = from;
     let mut cell = cells;
@@ -82,9 +81,9 @@ pub fn call_result(
 ) -> Typed
     requires { (head_end at ≤ length s.now) × SlotsFilled rows.now state.rows s.now output.now from end
         × OneType rows.now state.rows ty }
-    ensures { Call (old s) at ty from end
-        (old output) (old rows) (old errors) state
-        (final errors) result }
+    ensures { Call s.now at ty from end
+        output.now rows.now errors.old state
+        errors.new result }
 {
     if types::kind(rows, state.rows, ty) != types::FUNCTION {
         let error = error_at(s, at, NOT_A_FUNCTION, ty, 0, 0);

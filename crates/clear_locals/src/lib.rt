@@ -2,7 +2,6 @@
 #![tactic(auto)]
 
 ghost use Rattle.std.specs.Prelude.{◌*◌, ◌≤◌, ◌≡◌, length};
-ghost use Rattle.contract.specs.Moments.{old, final};
 ghost use Rattle.shape.specs.Shape.{a_statement};
 ghost use Rattle.shape.specs.declared.Holds.TheVariants.{Statements, Parameters};
 ghost use Rattle.names.specs.Names.{name_count};
@@ -21,9 +20,9 @@ use shape::kinds::{PARAMETER, VARIABLE_DECLARATION};
 pub fn clear_parameters(s: &[u8], parameters: Nodes, work: &mut [u32])
     requires fine_nodes { FineNodes s.now parameters Parameters }
     requires s_in_bounds { work_width * name_count s.now ≤ length work.old }
-    ensures { final work ≡ cleared_words 3
-        (parameter_names (parameters_at (old s) parameters.depth parameters.from parameters.end))
-        (old work) }
+    ensures { work.new ≡ cleared_words 3
+        (parameter_names (parameters_at s.now parameters.depth parameters.from parameters.end))
+        work.old }
 {
     let mut at = parameters.from;
     while at < parameters.end {
@@ -41,9 +40,9 @@ pub fn clear_parameters(s: &[u8], parameters: Nodes, work: &mut [u32])
 pub fn clear_statement(s: &[u8], node: Node, work: &mut [u32])
     requires fine_node { FineNode s.now node a_statement }
     requires s_in_bounds { work_width * name_count s.now ≤ length work.old }
-    ensures { final work ≡ cleared_words 2
-        (declared_names (statement_at (old s) node.depth node.at))
-        (old work) }
+    ensures { work.new ≡ cleared_words 2
+        (declared_names (statement_at s.now node.depth node.at))
+        work.old }
 {
     let inner = inner_statements(s, node);
     if inner.kind == VARIABLE_DECLARATION {
@@ -59,9 +58,9 @@ pub fn clear_statement(s: &[u8], node: Node, work: &mut [u32])
 fn clear_block(s: &[u8], statements: Nodes, work: &mut [u32])
     requires fine_nodes { FineNodes s.now statements Statements }
     requires s_in_bounds { work_width * name_count s.now ≤ length work.old }
-    ensures { final work ≡ cleared_words 2
-        (declared_names (statements_at (old s) statements.depth statements.from statements.end))
-        (old work) }
+    ensures { work.new ≡ cleared_words 2
+        (declared_names (statements_at s.now statements.depth statements.from statements.end))
+        work.old }
 {
     let depth = statements.depth;
     let mut at = statements.from;

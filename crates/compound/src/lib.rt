@@ -1,7 +1,6 @@
 // `type_check_compound_assignment`: the slots of a compound's values, and its errors for a target of a type.
 #![tactic(auto)]
 
-ghost use Rattle.contract.specs.Moments.{old};
 ghost use Rattle.shape.specs.Shape.{a_compound};
 ghost use Rattle.shape.specs.declared.Holds.TheVariants.{CompoundFields};
 ghost use Rattle.node.specs.Fine.{FineNode, FineNodes};
@@ -32,10 +31,10 @@ fn type_check_fields(
     state: State,
 ) -> State
     requires fine_nodes { FineNodes s.now list CompoundFields }
-    requires ready { Ready s.now (given work output errors rows index state) }
-    ensures { CarriedFieldNodes (old s) names list
-        (before work output errors rows index state)
-        (after work output errors rows index result) }
+    requires ready { Ready s.now (given work.now output errors rows index state) }
+    ensures { CarriedFieldNodes s.now names list
+        (before work.now output errors rows index state)
+        (after work.now output errors rows index result) }
 {
     let end = list.end;
     let mut at = list.from;
@@ -65,11 +64,11 @@ pub fn type_check_compound_assignment(
     state: State,
 ) -> State
     requires fine_node { FineNode s.now node a_compound }
-    requires ready { Ready s.now (given work output errors rows index state) }
+    requires ready { Ready s.now (given work.now output errors rows index state) }
     requires one_type { OneType rows.old state.rows ty }
-    ensures { CompoundCheckedNode (old s) names node ty
-        (before work output errors rows index state)
-        (after work output errors rows index result) }
+    ensures { CompoundCheckedNode s.now names node ty
+        (before work.now output errors rows index state)
+        (after work.now output errors rows index result) }
 {
     let at = node.at;
     let head = enter(s, node, COMPOUND);

@@ -2,7 +2,6 @@
 #![tactic(auto)]
 
 ghost use Rattle.std.specs.Prelude.{◌+◌, ◌^◌, ◌≤◌, ◌<◌, length, replicate, ◌≡◌};
-ghost use Rattle.contract.specs.Moments.{old, final};
 ghost use Rattle.types.specs.Ty.{struct_kind, kind_of};
 ghost use Rattle.types.specs.Table.{IsType, unfolded};
 ghost use Rattle.record_bytes.specs.Bytes.{word_at, head_end, field_end};
@@ -36,9 +35,9 @@ fn check_elements(
 ) -> State
     requires { (head_end at ≤ length s.now) × SlotsFilled rows.now state.rows s.now output.now from end
         × OneType rows.now state.rows element }
-    ensures { CheckElements (old s) at from end element
-        (old output) (old rows) (old errors) state
-        (final errors) result }
+    ensures { CheckElements s.now at from end element
+        output.now rows.now errors.old state
+        errors.new result }
 {
     let mut place = from;
     let mut next = state;
@@ -64,9 +63,9 @@ pub fn array_compound(
 ) -> State
     requires { (head_end at ≤ length s.now) × SlotsFilled rows.now state.rows s.now output.now from end
         × OneType rows.now state.rows target }
-    ensures { ArrayCompound (old s) at target from end
-        (old output) (old rows) (old errors) state
-        (final errors) result }
+    ensures { ArrayCompound s.now at target from end
+        output.now rows.now errors.old state
+        errors.new result }
 {
     let bare = types::desugar(rows, state.rows, target);
     if types::kind(rows, state.rows, bare) != types::ARRAY {
@@ -96,9 +95,9 @@ fn check_field(
         × OneType rows.now state.rows bare }
     requires bare_value { (kind_of (unfolded rows.now bare) ≡ struct_kind)
         × IsType rows.now state.rows (word_at output.now (value_place place)) }
-    ensures { CheckField (old s) place bare
-        (old output) (old rows) (old errors) state
-        (final errors) result }
+    ensures { CheckField s.now place bare
+        output.now rows.now errors.old state
+        errors.new result }
 {
     let name = word(s, place + HEAD_END);
     let field = types::field_named(rows, state.rows, bare, name);
@@ -123,9 +122,9 @@ fn check_fields(
 ) -> State
     requires filled_fields { FilledFields rows.now state.rows s.now output.now from end }
     requires one_type { OneType rows.now state.rows bare × (kind_of (unfolded rows.now bare) ≡ struct_kind) }
-    ensures { CheckFields (old s) from end bare
-        (old output) (old rows) (old errors) state
-        (final errors) result }
+    ensures { CheckFields s.now from end bare
+        output.now rows.now errors.old state
+        errors.new result }
 {
     let mut place = from;
     let mut next = state;
@@ -150,7 +149,7 @@ fn count_if(holds: bool, count: u32) -> u32
 // How many fields from `from` to `end` have a name.
 fn occurrences(s: &[u8], from: usize, end: usize, name: u32) -> u32
     requires { RecordsListed s.now from end }
-    ensures { Occurs (old s) from end name result }
+    ensures { Occurs s.now from end name result }
 {
     let mut at = from;
     let mut count: u32 = 0;
@@ -180,7 +179,7 @@ fn up_to_two(count: u8) -> u8
 // Counts a name into a table, if it has an entry there.
 fn count_name(table: &mut [u8; ENTRIES], name: u32)
     requires { length table.old ≡ entries }
-    ensures { final table ≡ with_name (old table) name }
+    ensures { table.new ≡ with_name table.old name }
 {
     let i = name as usize;
     if ENTRIES <= i {
@@ -193,7 +192,7 @@ fn count_name(table: &mut [u8; ENTRIES], name: u32)
 // Counts the names of the fields from `from` to `end` into a table of zeros.
 fn count_names(s: &[u8], from: usize, end: usize, table: &mut [u8; ENTRIES])
     requires { RecordsListed s.now from end × (table.old ≡ replicate entries 0) }
-    ensures { Tallied (old s) from end (final table) × (length (final table) ≡ entries) }
+    ensures { Tallied s.now from end table.new × (length table.new ≡ entries) }
 {
     let mut at = from;
     while at < end {
@@ -205,7 +204,7 @@ fn count_names(s: &[u8], from: usize, end: usize, table: &mut [u8; ENTRIES])
 // Whether one field from `from` to `end` at most has a name. A name without an entry is counted.
 fn is_single(s: &[u8], from: usize, end: usize, table: &[u8], name: u32) -> bool
     requires { RecordsListed s.now from end × Tallied s.now from end table.now }
-    ensures { Single (old s) from end name result }
+    ensures { Single s.now from end name result }
 {
     let i = name as usize;
     if table.len() <= i {
@@ -224,7 +223,7 @@ fn report_repeats(
     state: State,
 ) -> State
     requires { RecordsListed s.now from end × Tallied s.now from end table.now }
-    ensures { CheckRepeats (old s) from end (old errors) state (final errors) result }
+    ensures { CheckRepeats s.now from end errors.old state errors.new result }
 {
     let mut at = from;
     let mut next = state;
@@ -241,7 +240,7 @@ fn report_repeats(
 // into a table.
 pub fn check_repeats(s: &[u8], from: usize, end: usize, errors: &mut [u32], state: State) -> State
     requires { RecordsListed s.now from end }
-    ensures { CheckRepeats (old s) from end (old errors) state (final errors) result }
+    ensures { CheckRepeats s.now from end errors.old state errors.new result }
 {
     if end - from < LONG {
         return report_repeats(s, from, end, b"", errors, state);
@@ -266,9 +265,9 @@ pub fn struct_compound(
     requires { (head_end at ≤ length s.now)
         × FilledFields rows.now state.rows s.now output.now from end
         × OneType rows.now state.rows target }
-    ensures { StructCompound (old s) at target from end
-        (old output) (old rows) (old errors) state
-        (final errors) result }
+    ensures { StructCompound s.now at target from end
+        output.now rows.now errors.old state
+        errors.new result }
 {
     let bare = types::desugar(rows, state.rows, target);
     if types::kind(rows, state.rows, bare) != types::STRUCT {

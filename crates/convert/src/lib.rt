@@ -2,7 +2,6 @@
 #![tactic(auto)]
 
 ghost use Rattle.std.specs.Prelude.{◌≡◌, ◌+◌, ◌*◌, ◌<◌, ◌≤◌, length};
-ghost use Rattle.contract.specs.Moments.{old, final};
 ghost use Rattle.row_index.specs.Index.{Indexed};
 ghost use Rattle.types.specs.Ty.{field_kind};
 ghost use Rattle.types.specs.Table.{Table};
@@ -63,7 +62,7 @@ pub struct FieldHead {
 // An error at the record at `at`, other than a bad literal's.
 pub fn error_at(s: &[u8], at: usize, kind: u32, first: u32, second: u32, third: u32) -> Error
     requires { head_end at ≤ length s.now }
-    ensures { result ≡ error_for (old s) at kind first second third }
+    ensures { result ≡ error_for s.now at kind first second third }
 {
     Error {
         kind,
@@ -118,7 +117,7 @@ fn named_type(
     requires at_in_bounds { fields_end at ≤ length s.now }
     requires at_bound { word_at s.now (field_end at) < name_count s.now }
     requires s_in_bounds { work_width * name_count s.now ≤ length work.now }
-    ensures { Named (old s) names at (old work) (old errors) state (final errors) result }
+    ensures { Named s.now names at work.now errors.old state errors.new result }
 {
     let name = word(s, at + FIELD_END);
     let alias = walk::word_of(work, name, walk::ALIAS);
@@ -137,7 +136,7 @@ fn named_type(
 // Stores a row number in the slot of the record at `at`, if slots are filled.
 fn settle(at: usize, fill: bool, output: &mut [u8], ty: u32)
     requires { slot_end at ≤ length output.old }
-    ensures { final output ≡ settled fill (old output) at ty }
+    ensures { output.new ≡ settled fill output.old at ty }
 {
     if !fill {
         return;
@@ -159,8 +158,8 @@ fn settle_row(
     requires table { Table rows.old state.rows × PartsOk rows.old state.rows row }
     requires indexed { Indexed rows.old state.rows index.old }
     ensures { RowSettled row at fill
-        (old output) (old rows) (old index) state
-        (final output) (final rows) (final index) result }
+        output.old rows.old index.old state
+        output.new rows.new index.new result }
 {
     let made = walk::make(rows, index, state, row);
     settle(at, fill, output, made.ty);
@@ -170,7 +169,7 @@ fn settle_row(
 // The kind of a T record.
 fn type_kind(s: &[u8], node: Node) -> u32
     requires { FineNode s.now node a_type }
-    ensures { TypeOpened (old s) node.depth node.at result }
+    ensures { TypeOpened s.now node.depth node.at result }
 {
     half(s, node.at + KIND)
 }
@@ -179,7 +178,7 @@ fn type_kind(s: &[u8], node: Node) -> u32
 fn field_head(s: &[u8], fields: Nodes) -> FieldHead
     requires fine_nodes { FineNodes s.now fields Fields }
     requires from_lt_end { fields.from < fields.end }
-    ensures { FieldOpened (old s) fields.depth fields.from fields.end result }
+    ensures { FieldOpened s.now fields.depth fields.from fields.end result }
 {
     FieldHead {
         name: word(s, fields.from + HEAD_END),
@@ -202,10 +201,10 @@ pub fn convert_node_type(
     state: State,
 ) -> Typed
     requires fine_node { FineNode s.now node a_type }
-    requires ready { Ready s.now (given work output errors rows index state) }
-    ensures { ConvertedNode (old s) pass node
-        (before work output errors rows index state)
-        (after work output errors rows index result.state) result.ty }
+    requires ready { Ready s.now (given work.now output errors rows index state) }
+    ensures { ConvertedNode s.now pass node
+        (before work.now output errors rows index state)
+        (after work.now output errors rows index result.state) result.ty }
 {
     let kind = type_kind(s, node);
     let at = node.at;
@@ -243,10 +242,10 @@ fn convert_pointer(
 ) -> Typed
     requires fine_node { FineNode s.now node a_type }
     requires at_value { kind_at s.now node.at ≡ kinds.pointer_type }
-    requires ready { Ready s.now (given work output errors rows index state) }
-    ensures { ConvertedNode (old s) pass node
-        (before work output errors rows index state)
-        (after work output errors rows index result.state) result.ty }
+    requires ready { Ready s.now (given work.now output errors rows index state) }
+    ensures { ConvertedNode s.now pass node
+        (before work.now output errors rows index state)
+        (after work.now output errors rows index result.state) result.ty }
 {
     let at = node.at + FIELD_END;
     let depth = node.depth - 1;
@@ -272,10 +271,10 @@ fn convert_array(
 ) -> Typed
     requires fine_node { FineNode s.now node a_type }
     requires at_value { kind_at s.now node.at ≡ kinds.array_type }
-    requires ready { Ready s.now (given work output errors rows index state) }
-    ensures { ConvertedNode (old s) pass node
-        (before work output errors rows index state)
-        (after work output errors rows index result.state) result.ty }
+    requires ready { Ready s.now (given work.now output errors rows index state) }
+    ensures { ConvertedNode s.now pass node
+        (before work.now output errors rows index state)
+        (after work.now output errors rows index result.state) result.ty }
 {
     let size = word(s, node.at + FIELD_END);
     let at = node.at + FIELDS_END;
@@ -303,10 +302,10 @@ fn convert_struct(
 ) -> Typed
     requires fine_node { FineNode s.now node a_type }
     requires at_value { kind_at s.now node.at ≡ kinds.struct_type }
-    requires ready { Ready s.now (given work output errors rows index state) }
-    ensures { ConvertedNode (old s) pass node
-        (before work output errors rows index state)
-        (after work output errors rows index result.state) result.ty }
+    requires ready { Ready s.now (given work.now output errors rows index state) }
+    ensures { ConvertedNode s.now pass node
+        (before work.now output errors rows index state)
+        (after work.now output errors rows index result.state) result.ty }
 {
     let end = node.at + length_at(s, node.at);
     let from = node.at + FIELD_END;
@@ -333,10 +332,10 @@ fn convert_chunk(
     mut state: State,
 ) -> Chunk
     requires fine_nodes { FineNodes s.now fields Fields × (fields.from < fields.end) × (length kept.old ≡ 2 * chunk) }
-    requires ready { Ready s.now (given work output errors rows index state) }
-    ensures { FieldsChunk (old s) pass fields (final kept)
-        (before work output errors rows index state)
-        (after work output errors rows index result.state) result }
+    requires ready { Ready s.now (given work.now output errors rows index state) }
+    ensures { FieldsChunk s.now pass fields kept.new
+        (before work.now output errors rows index state)
+        (after work.now output errors rows index result.state) result }
 {
     let end = fields.end;
     let depth = fields.depth;
@@ -371,9 +370,9 @@ fn make_fields(
 ) -> Typed
     requires kept_len { (length kept.now ≡ 2 * chunk) × (count ≤ chunk) }
     requires cells_ok { CellsOk (field_cell kept.now) field_kind count rows.old index.old state rest }
-    ensures { CellsMade (field_cell (old kept)) count
-        (old rows) (old index) state rest
-        (final rows) (final index) result }
+    ensures { CellsMade (field_cell kept.now) count
+        rows.old index.old state rest
+        rows.new index.new result }
 {
     let mut left = count;
     while 0 < left {
@@ -402,10 +401,10 @@ fn convert_fields(
     state: State,
 ) -> Typed
     requires fine_nodes { FineNodes s.now fields Fields }
-    requires ready { Ready s.now (given work output errors rows index state) }
-    ensures { FieldsConverted (old s) pass fields
-        (before work output errors rows index state)
-        (after work output errors rows index result.state) result.ty }
+    requires ready { Ready s.now (given work.now output errors rows index state) }
+    ensures { FieldsConverted s.now pass fields
+        (before work.now output errors rows index state)
+        (after work.now output errors rows index result.state) result.ty }
 {
     let end = fields.end;
     if end <= fields.from {
@@ -437,10 +436,10 @@ fn convert_others(
     state: State,
 ) -> Typed
     requires fine_nodes { FineNodes s.now fields Fields }
-    requires ready { Ready s.now (given work output errors rows index state) }
-    ensures { FieldsConverted (old s) pass fields
-        (before work output errors rows index state)
-        (after work output errors rows index result.state) result.ty }
+    requires ready { Ready s.now (given work.now output errors rows index state) }
+    ensures { FieldsConverted s.now pass fields
+        (before work.now output errors rows index state)
+        (after work.now output errors rows index result.state) result.ty }
 {
     if fields.end <= fields.from {
         return Typed { ty: 0, state };

@@ -2,7 +2,6 @@
 #![tactic(auto)]
 
 ghost use Rattle.std.specs.Prelude.{◌≡◌, ◌*◌, ◌≤◌, length};
-ghost use Rattle.contract.specs.Moments.{old, final};
 ghost use Rattle.row_index.specs.Index.{Indexed};
 ghost use Rattle.types.specs.Ty.{argument_kind};
 ghost use Rattle.types.specs.Table.{Table, IsType};
@@ -40,7 +39,7 @@ const INTERNAL: u32 = 2;
 // The place after the first of some parameters, or 0 where none is left.
 fn parameter_end(s: &[u8], list: Nodes) -> usize
     requires { FineNodes s.now list Parameters }
-    ensures { ParameterEnd (old s) list.depth list.from list.end result }
+    ensures { ParameterEnd s.now list.depth list.from list.end result }
 {
     if list.end <= list.from {
         return 0;
@@ -68,10 +67,10 @@ fn convert_chunk(
     mut state: State,
 ) -> Chunk
     requires fine_nodes { FineNodes s.now list Parameters × HasParameter s.now list × (length kept.old ≡ chunk) }
-    requires ready { Ready s.now (given work output errors rows index state) }
-    ensures { ParametersChunk (old s) names list (final kept)
-        (before work output errors rows index state)
-        (after work output errors rows index result.state) result }
+    requires ready { Ready s.now (given work.now output errors rows index state) }
+    ensures { ParametersChunk s.now names list kept.new
+        (before work.now output errors rows index state)
+        (after work.now output errors rows index result.state) result }
 {
     let end = list.end;
     let depth = list.depth;
@@ -106,9 +105,9 @@ fn make_arguments(
 ) -> Typed
     requires kept_len { (length kept.now ≡ chunk) × (count ≤ chunk) }
     requires cells_ok { CellsOk (argument_cell kept.now) argument_kind count rows.old index.old state rest }
-    ensures { CellsMade (argument_cell (old kept)) count
-        (old rows) (old index) state rest
-        (final rows) (final index) result }
+    ensures { CellsMade (argument_cell kept.now) count
+        rows.old index.old state rest
+        rows.new index.new result }
 {
     let mut left = count;
     while 0 < left {
@@ -137,10 +136,10 @@ fn convert_parameters(
     state: State,
 ) -> Typed
     requires fine_nodes { FineNodes s.now list Parameters }
-    requires ready { Ready s.now (given work output errors rows index state) }
-    ensures { ConvertedParameters (old s) names list
-        (before work output errors rows index state)
-        (after work output errors rows index result.state) result.ty }
+    requires ready { Ready s.now (given work.now output errors rows index state) }
+    ensures { ConvertedParameters s.now names list
+        (before work.now output errors rows index state)
+        (after work.now output errors rows index result.state) result.ty }
 {
     if parameter_end(s, list) < 1 {
         return Typed { ty: 0, state };
@@ -172,10 +171,10 @@ fn convert_others(
     state: State,
 ) -> Typed
     requires fine_nodes { FineNodes s.now list Parameters }
-    requires ready { Ready s.now (given work output errors rows index state) }
-    ensures { ConvertedParameters (old s) names list
-        (before work output errors rows index state)
-        (after work output errors rows index result.state) result.ty }
+    requires ready { Ready s.now (given work.now output errors rows index state) }
+    ensures { ConvertedParameters s.now names list
+        (before work.now output errors rows index state)
+        (after work.now output errors rows index result.state) result.ty }
 {
     if parameter_end(s, list) < 1 {
         return Typed { ty: 0, state };
@@ -197,10 +196,10 @@ fn function_type(
 ) -> Typed
     requires fine_node { FineNode s.now node an_item }
     requires at_value { kind_at s.now node.at ≡ kinds.function_definition }
-    requires ready { Ready s.now (given work output errors rows index state) }
-    ensures { ConvertedFunction (old s) names node
-        (before work output errors rows index state)
-        (after work output errors rows index result.state) result.ty }
+    requires ready { Ready s.now (given work.now output errors rows index state) }
+    ensures { ConvertedFunction s.now names node
+        (before work.now output errors rows index state)
+        (after work.now output errors rows index result.state) result.ty }
 {
     let end = node.at + length_at(s, node.at);
     let at = node.at + FIELD_END;
@@ -234,10 +233,10 @@ fn declare_function(
 ) -> State
     requires fine_node { FineNode s.now node an_item }
     requires at_value { kind_at s.now node.at ≡ kinds.function_definition }
-    requires ready { Ready s.now (given work output errors rows index state) }
-    ensures { DeclaredNode (old s) names node
-        (before work output errors rows index state)
-        (after work output errors rows index result) }
+    requires ready { Ready s.now (given work.old output errors rows index state) }
+    ensures { DeclaredNode s.now names node
+        (before work.old output errors rows index state)
+        (after work.new output errors rows index result) }
 {
     let function = function_type(s, names, work, node, output, errors, rows, index, state);
     let name = word(s, node.at + HEAD_END);
@@ -259,10 +258,10 @@ fn declare_variable(
 ) -> State
     requires fine_node { FineNode s.now node an_item }
     requires at_value { kind_at s.now node.at ≡ kinds.global_declaration }
-    requires ready { Ready s.now (given work output errors rows index state) }
-    ensures { DeclaredNode (old s) names node
-        (before work output errors rows index state)
-        (after work output errors rows index result) }
+    requires ready { Ready s.now (given work.old output errors rows index state) }
+    ensures { DeclaredNode s.now names node
+        (before work.old output errors rows index state)
+        (after work.new output errors rows index result) }
 {
     let at = node.at + FIELD_END;
     let depth = node.depth - 1;
@@ -286,7 +285,7 @@ fn internal_alias(
 ) -> State
     requires names_one { NamesOne s.now at }
     requires table { Table rows.now state.rows × IsType rows.now state.rows ty }
-    ensures { InternalCompared (old s) names at ty (old rows) (old errors) state (final errors) result }
+    ensures { InternalCompared s.now names at ty rows.now errors.old state errors.new result }
 {
     let name = word(s, at + HEAD_END);
     let primitive = convert::primitive_type(names, name);
@@ -331,9 +330,9 @@ fn store_alias(
     requires s_in_bounds { work_width * name_count s.now ≤ length work.old }
     requires table { Table rows.old state.rows × IsType rows.old state.rows ty }
     requires indexed { Indexed rows.old state.rows index.old }
-    ensures { AliasStored (old s) names at distinct ty
-        (old work) (old errors) (old rows) (old index) state
-        (final work) (final errors) (final rows) (final index) result }
+    ensures { AliasStored s.now names at distinct ty
+        work.old errors.old rows.old index.old state
+        work.new errors.new rows.new index.new result }
 {
     let name = word(s, at + HEAD_END);
     let earlier = walk::word_of(work, name, walk::ALIAS);
@@ -366,10 +365,10 @@ fn declare_alias(
 ) -> State
     requires fine_node { FineNode s.now node an_item }
     requires at_value { kind_at s.now node.at ≡ kinds.type_alias }
-    requires ready { Ready s.now (given work output errors rows index state) }
-    ensures { DeclaredNode (old s) names node
-        (before work output errors rows index state)
-        (after work output errors rows index result) }
+    requires ready { Ready s.now (given work.old output errors rows index state) }
+    ensures { DeclaredNode s.now names node
+        (before work.old output errors rows index state)
+        (after work.new output errors rows index result) }
 {
     let at = node.at;
     let flags = word(s, at + FIELD_END);
@@ -400,10 +399,10 @@ fn declare_item(
     state: State,
 ) -> State
     requires fine_node { FineNode s.now node an_item }
-    requires ready { Ready s.now (given work output errors rows index state) }
-    ensures { DeclaredNode (old s) names node
-        (before work output errors rows index state)
-        (after work output errors rows index result) }
+    requires ready { Ready s.now (given work.old output errors rows index state) }
+    ensures { DeclaredNode s.now names node
+        (before work.old output errors rows index state)
+        (after work.new output errors rows index result) }
 {
     let kind = half(s, node.at + KIND);
     match kind {
@@ -431,10 +430,10 @@ pub fn declare_items(
     state: State,
 ) -> State
     requires fine_nodes { FineNodes s.now list Items }
-    requires ready { Ready s.now (given work output errors rows index state) }
-    ensures { DeclaredNodes (old s) names list
-        (before work output errors rows index state)
-        (after work output errors rows index result) }
+    requires ready { Ready s.now (given work.old output errors rows index state) }
+    ensures { DeclaredNodes s.now names list
+        (before work.old output errors rows index state)
+        (after work.new output errors rows index result) }
 {
     let depth = list.depth;
     let mut at = list.from;

@@ -1,7 +1,7 @@
 -- The request's three demands, each over whole runs of the entry: what a call was given, left and answered (`Run`). Types are compared unfolded.
 use Rattle.std.specs.Prelude.{ℕ, ◌+◌, ◌*◌, ◌≤◌, ◌<◌, ◌≡◌, true, List, ◌⊎◌, length}
 use Rattle.std.proofs.Math.Option.{some}
-use Rattle.std.specs.Borrow.{Bor}
+use Rattle.std.specs.Borrow.{MutBor}
 use denote.Triple.Both.{Both}
 use Rattle.contract.specs.Moments.{old}
 use Rattle.types.specs.Table.{row_width, unfolded}
@@ -82,8 +82,8 @@ abbrev pub run : (input : List ℕ) → (before after : Buffers) → Outcome Cou
 run input before after answer = record { input = input; before = before; after = after; answer = answer }
 
 -- as a contract names it
-abbrev pub run_of : (input output rows errors work : Both (Bor (List ℕ)) (Bor (List ℕ))) → Outcome Counts → Run
-run_of input output rows errors work = run (old input) (buffers_before output rows errors work) (buffers_after output rows errors work)
+abbrev pub run_of : (input : List ℕ) (output rows errors work : Both (MutBor (List ℕ)) (MutBor (List ℕ))) → Outcome Counts → Run
+run_of input output rows errors work = run input (buffers_before output rows errors work) (buffers_after output rows errors work)
 
 -- Demands 1 and 2 of one run
 pub record DemandsOfOne (run : Run) : Type 0 where

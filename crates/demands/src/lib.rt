@@ -27,8 +27,8 @@ pub fn type_check_both(
     work_2: &mut [u32],
 ) -> Answers
     ensures { Demands
-        (run_of input output rows errors work (outcome_of result.first))
-        (run_of input_2 output_2 rows_2 errors_2 work_2 (outcome_of result.second)) }
+        (run_of input.now output rows errors work (outcome_of result.first))
+        (run_of input_2.now output_2 rows_2 errors_2 work_2 (outcome_of result.second)) }
 {
     let first = type_check_module(input, output, rows, errors, work);
     let second = type_check_module(input_2, output_2, rows_2, errors_2, work_2);

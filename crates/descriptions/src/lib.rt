@@ -2,7 +2,6 @@
 #![tactic(auto)]
 
 ghost use Rattle.std.specs.Prelude.{◌≡◌, ◌<◌, length};
-ghost use Rattle.contract.specs.Moments.{old, final};
 ghost use Rattle.fallible.specs.Errors.{error_width};
 ghost use Rattle.text.specs.Written.{Fits, Written};
 ghost use Rattle.rows.specs.Search.{Decides};
@@ -101,7 +100,7 @@ pub fn operator_length(operator: u32) -> u32
 pub fn put_operator(text: &mut [u8], at: usize, operator: u32) -> usize
     requires operator { IsOperator operator }
     requires fits { Fits (operator_text operator) text.old at }
-    ensures { Written (operator_text operator) (old text) (final text) at result }
+    ensures { Written (operator_text operator) text.old text.new at result }
 {
     let symbols = SYMBOLS;
     let symbol = symbols[operator as usize];
@@ -144,7 +143,6 @@ const LINES: [u8; LENGTH] = *b"unknown type `N`\n\
     target of array compound assignment cannot be `T`\n\
     target of struct compound assignment has no field named `N`\n\
     target of struct compound assignment cannot be `T`\n\
-    #[derive(Clone, Copy)]
     struct compound assigns `N` more than once\n";
 
 // Where the line of each kind starts, from kind 0, which has none, and where the last ends; of how many kinds.

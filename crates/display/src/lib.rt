@@ -2,7 +2,6 @@
 #![tactic(auto)]
 
 ghost use Rattle.std.specs.Prelude.{◌≡◌, [], ◌≤◌, ◌-◌, length};
-ghost use Rattle.contract.specs.Moments.{old, final};
 ghost use Rattle.types.specs.Ty.{unknown_kind, pointer_kind, array_kind, alias_kind, field_kind};
 ghost use Rattle.types.specs.Table.{Table, unfolded};
 ghost use Rattle.text.specs.Length.{capped};
@@ -34,7 +33,7 @@ struct Inner {
 pub fn name_text<'a>(s: &'a [u8], built_in: &'a [u8], places: &[u16], name: u32) -> &'a [u8]
     requires names_listed { NamesListed s.now places.now }
     requires name_exists { NameExists s.now name }
-    ensures { result.now ≡ name_text (old s) (old built_in) name }
+    ensures { result.now ≡ name_text s.now built_in.now name }
 {
     if name == STRING_NAME {
         return built_in;
@@ -47,7 +46,7 @@ pub fn name_text<'a>(s: &'a [u8], built_in: &'a [u8], places: &[u16], name: u32)
 // The row of the part that comes first in row n's text, or 0.
 fn first_part(rows: &[u32], count: u32, n: u32) -> u32
     requires { Table rows.now count × (1 ≤ n) × (n ≤ count) }
-    ensures { PartRow (old rows) count n result (first_in (unfolded (old rows) n)) }
+    ensures { PartRow rows.now count n result (first_in (unfolded rows.now n)) }
 {
     let kind = types::kind(rows, count, n);
     if kind < POINTER {
@@ -68,7 +67,7 @@ fn first_part(rows: &[u32], count: u32, n: u32) -> u32
 // The row of the part that comes second, or 0.
 fn second_part(rows: &[u32], count: u32, n: u32) -> u32
     requires { Table rows.now count × (1 ≤ n) × (n ≤ count) }
-    ensures { PartRow (old rows) count n result (second_in (unfolded (old rows) n)) }
+    ensures { PartRow rows.now count n result (second_in (unfolded rows.now n)) }
 {
     let kind = types::kind(rows, count, n);
     if kind == FUNCTION {
@@ -83,7 +82,7 @@ fn second_part(rows: &[u32], count: u32, n: u32) -> u32
 // The length of row n's text, as the working words have it; 0 for the number 0.
 fn length_of(work: &[u32], n: u32) -> u32
     requires { n ≤ length work.now }
-    ensures { result ≡ length_at (old work) n }
+    ensures { result ≡ length_at work.now n }
 {
     if n == 0 {
         return 0;
@@ -109,7 +108,7 @@ fn direct_length(kind: u32) -> u32
 // The length of the opening of a type with a name.
 fn named_length(kind: u32, name: &[u8]) -> u32
     requires { (alias_kind ≤ kind) × (kind ≤ field_kind) }
-    ensures { result ≡ capped (length (opening kind (old name) 0)) }
+    ensures { result ≡ capped (length (opening kind name.now 0)) }
 {
     let length = capped_length(name);
     if kind < DISTINCT_ALIAS {
@@ -131,7 +130,7 @@ fn opening_length<'a>(
     n: u32,
 ) -> u32
     requires { Printable s.now places.now rows.now count × (1 ≤ n) × (n ≤ count) }
-    ensures { result ≡ capped (length (opening_of (name_text (old s) (old built_in)) (unfolded (old rows) n))) }
+    ensures { result ≡ capped (length (opening_of (name_text s.now built_in.now) (unfolded rows.now n))) }
 {
     let kind = types::kind(rows, count, n);
     if kind < ARRAY {
@@ -187,7 +186,7 @@ fn row_length<'a>(
 ) -> u32
     requires measured { Measured s.now built_in.now places.now rows.now count (n - 1) work.now }
     requires le_n { (1 ≤ n) × (n ≤ count) }
-    ensures { result ≡ text_length (name_text (old s) (old built_in)) (unfolded (old rows) n) }
+    ensures { result ≡ text_length (name_text s.now built_in.now) (unfolded rows.now n) }
 {
     let kind = types::kind(rows, count, n);
     let first = first_part(rows, count, n);
@@ -208,7 +207,7 @@ pub fn fill_lengths<'a>(
     work: &mut [u32],
 )
     requires { Printable s.now places.now rows.now count × (count ≤ length work.old) }
-    ensures { Filled (name_text (old s) (old built_in)) (old rows) count (old work) (final work) }
+    ensures { Filled (name_text s.now built_in.now) rows.now count work.old work.new }
 {
     let mut i: u32 = 0;
     while i < count {
@@ -222,7 +221,7 @@ pub fn fill_lengths<'a>(
 fn write_direct(text: &mut [u8], at: usize, kind: u32) -> usize
     requires unknown_kind_le_kind { (unknown_kind ≤ kind) × (kind ≤ pointer_kind) }
     requires fits { Fits (opening kind [] 0) text.old at }
-    ensures { Written (opening kind [] 0) (old text) (final text) at result }
+    ensures { Written (opening kind [] 0) text.old text.new at result }
 {
     match kind {
         UNKNOWN => put(text, at, b"<unknown>"),
@@ -237,7 +236,7 @@ fn write_direct(text: &mut [u8], at: usize, kind: u32) -> usize
 // Writes the opening of an array, and returns the place behind it.
 fn write_size(text: &mut [u8], at: usize, size: u32) -> usize
     requires { Fits (opening array_kind [] size) text.old at }
-    ensures { Written (opening array_kind [] size) (old text) (final text) at result }
+    ensures { Written (opening array_kind [] size) text.old text.new at result }
 {
     let start = put(text, at, b"[");
     let end = put_decimal(text, start, size);
@@ -248,7 +247,7 @@ fn write_size(text: &mut [u8], at: usize, size: u32) -> usize
 fn write_named(text: &mut [u8], at: usize, kind: u32, name: &[u8]) -> usize
     requires alias_kind_le_kind { (alias_kind ≤ kind) × (kind ≤ field_kind) }
     requires fits { Fits (opening kind name.now 0) text.old at }
-    ensures { Written (opening kind (old name) 0) (old text) (final text) at result }
+    ensures { Written (opening kind name.now 0) text.old text.new at result }
 {
     let end = put(text, at, name);
     if kind < DISTINCT_ALIAS {
@@ -273,8 +272,8 @@ fn write_opening<'a>(
 ) -> usize
     requires printable { Printable s.now places.now rows.now count × (1 ≤ n) × (n ≤ count) }
     requires fits { Fits (opening_of (name_text s.now built_in.now) (unfolded rows.now n)) text.old at }
-    ensures { Written (opening_of (name_text (old s) (old built_in)) (unfolded (old rows) n))
-        (old text) (final text) at result }
+    ensures { Written (opening_of (name_text s.now built_in.now) (unfolded rows.now n))
+        text.old text.new at result }
 {
     let kind = types::kind(rows, count, n);
     if kind < ARRAY {
@@ -299,7 +298,7 @@ fn write_opening<'a>(
 // Writes the middle of a row's text, and returns the place behind it.
 fn write_middle(text: &mut [u8], at: usize, kind: u32, last: bool) -> usize
     requires { Fits (middle kind last) text.old at }
-    ensures { Written (middle kind last) (old text) (final text) at result }
+    ensures { Written (middle kind last) text.old text.new at result }
 {
     if kind == STRUCT {
         return put(text, at, b" }");
@@ -334,7 +333,7 @@ fn write_own<'a>(
     requires measured { Measured s.now built_in.now places.now rows.now count count work.now }
     requires le_n { (1 ≤ n) × (n ≤ count) }
     requires fits { Fits (row_text (name_text s.now built_in.now) rows.now n) text.old at }
-    ensures { Owned (name_text (old s) (old built_in)) (old rows) n (old text) (final text) at result }
+    ensures { Owned (name_text s.now built_in.now) rows.now n text.old text.new at result }
 {
     let kind = types::kind(rows, count, n);
     let first = first_part(rows, count, n);
@@ -366,8 +365,8 @@ pub fn write_type<'a>(
 ) -> usize
     requires measured { Measured s.now built_in.now places.now rows.now count count work.now × (n ≤ count) }
     requires fits { Fits (row_text (name_text s.now built_in.now) rows.now n) text.old from }
-    ensures { Written (row_text (name_text (old s) (old built_in)) (old rows) n)
-        (old text) (final text) from result }
+    ensures { Written (row_text (name_text s.now built_in.now) rows.now n)
+        text.old text.new from result }
 {
     let mut row = n;
     let mut at = from;

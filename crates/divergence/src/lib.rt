@@ -3,7 +3,6 @@
 #![tactic(auto)]
 
 ghost use Rattle.std.specs.Prelude.{◌≡◌};
-ghost use Rattle.contract.specs.Moments.{old};
 ghost use Rattle.shape.specs.Shape.{a_statement};
 ghost use Rattle.shape.specs.declared.Holds.TheVariants.{Statements};
 ghost use Rattle.layout.specs.Layout.{kind_at, stop_at};
@@ -21,7 +20,7 @@ use shape::kinds::{BLOCK, BREAK, IF_STATEMENT, LOOP, RETURN, WHILE};
 fn inner_start(s: &[u8], node: Node, kind: u32, stop: usize) -> usize
     requires fine_node { FineNode s.now node a_statement }
     requires kind_value { (kind ≡ kind_at s.now node.at) × (stop ≡ stop_at s.now node.at) }
-    ensures { InnerOf (old s) node (head_of node kind result stop) }
+    ensures { InnerOf s.now node (head_of node kind result stop) }
 {
     let at = node.at;
     match kind {
@@ -35,7 +34,7 @@ fn inner_start(s: &[u8], node: Node, kind: u32, stop: usize) -> usize
 // A statement with its kind; as its start and its stop, those of the statements that it holds.
 pub fn inner_statements(s: &[u8], node: Node) -> Entered
     requires { FineNode s.now node a_statement }
-    ensures { InnerOf (old s) node result }
+    ensures { InnerOf s.now node result }
 {
     let at = node.at;
     let kind = half(s, at + KIND);
@@ -53,7 +52,7 @@ pub fn inner_statements(s: &[u8], node: Node) -> Entered
 #[cycle(find_break_find_break_in)]
 fn find_break(s: &[u8], node: Node) -> bool
     requires { FineNode s.now node a_statement }
-    ensures { result ≡ find_break (statement_at (old s) node.depth node.at) }
+    ensures { result ≡ find_break (statement_at s.now node.depth node.at) }
 {
     let inner = inner_statements(s, node);
     if inner.kind == BREAK {
@@ -66,7 +65,7 @@ fn find_break(s: &[u8], node: Node) -> bool
 #[cycle(find_break_find_break_in)]
 fn find_break_in(s: &[u8], statements: Nodes) -> bool
     requires { FineNodes s.now statements Statements }
-    ensures { result ≡ find_break (statements_at (old s) statements.depth statements.from statements.end) }
+    ensures { result ≡ find_break (statements_at s.now statements.depth statements.from statements.end) }
 {
     let depth = statements.depth;
     let mut at = statements.from;
@@ -84,7 +83,7 @@ fn find_break_in(s: &[u8], statements: Nodes) -> bool
 #[cycle(any_path_diverges_do_all_paths_diverge)]
 pub fn do_all_paths_diverge(s: &[u8], node: Node) -> bool
     requires { FineNode s.now node a_statement }
-    ensures { result ≡ do_all_paths_diverge (statement_at (old s) node.depth node.at) }
+    ensures { result ≡ do_all_paths_diverge (statement_at s.now node.depth node.at) }
 {
     let inner = inner_statements(s, node);
     let kind = inner.kind;
@@ -118,7 +117,7 @@ pub fn do_all_paths_diverge(s: &[u8], node: Node) -> bool
 fn any_path_diverges(s: &[u8], statements: Nodes) -> bool
     requires { FineNodes s.now statements Statements }
     ensures { result ≡ do_all_paths_diverge
-        (statements_at (old s) statements.depth statements.from statements.end) }
+        (statements_at s.now statements.depth statements.from statements.end) }
 {
     let depth = statements.depth;
     let mut at = statements.from;

@@ -1,6 +1,6 @@
 -- What the functions behind the entry ask for and promise.
 use Rattle.std.specs.Prelude.{ℕ, ◌*◌, ◌≤◌, ◌<◌, ◌≡◌, ◌⊎◌, List, length, get_or}
-use Rattle.std.specs.Borrow.{Bor}
+use Rattle.std.specs.Borrow.{MutBor}
 use denote.Triple.Both.{Both}
 use Rattle.contract.specs.Moments.{old, final}
 use Rattle.types.specs.Ty.{string_name, kind_of, name_of, alias_kind, field_kind}
@@ -19,12 +19,12 @@ use Rattle.error_messages.specs.declared.Answer.{Answer}
 use Rattle.error_messages.specs.declared.Answer.TheVariants.{Written, Refused}
 
 -- What messages are printed from, in a `requires`
-abbrev pub given_inputs : (s built_in rows : Bor (List ℕ)) → (count : ℕ) → Inputs
-given_inputs s built_in rows count = inputs s.now built_in.now rows.now count
+abbrev pub given_inputs : (s built_in rows : List ℕ) → (count : ℕ) → Inputs
+given_inputs s built_in rows count = inputs s built_in rows count
 
 -- and in an `ensures`
-abbrev pub old_inputs : (s built_in rows : Both (Bor (List ℕ)) (Bor (List ℕ))) → (count : ℕ) → Inputs
-old_inputs s built_in rows count = inputs (old s) (old built_in) (old rows) count
+abbrev pub old_inputs : (s built_in rows : List ℕ) → (count : ℕ) → Inputs
+old_inputs s built_in rows count = inputs s built_in rows count
 
 -- The error whose words are lent
 abbrev pub error_in : (words : List ℕ) → Error
@@ -52,11 +52,11 @@ pub record Named (w : List ℕ) (n names : ℕ) : Type 0 where
 abbrev pub loan : (text work : List ℕ) → Loan
 loan text work = record { text = text; work = work }
 
-abbrev pub loan_before : (text work : Both (Bor (List ℕ)) (Bor (List ℕ))) → Loan
+abbrev pub loan_before : (text work : Both (MutBor (List ℕ)) (MutBor (List ℕ))) → Loan
 loan_before text work = loan (old text) (old work)
 
 -- and at exit
-abbrev pub loan_after : (text work : Both (Bor (List ℕ)) (Bor (List ℕ))) → Loan
+abbrev pub loan_after : (text work : Both (MutBor (List ℕ)) (MutBor (List ℕ))) → Loan
 loan_after text work = loan (final text) (final work)
 
 -- The number of the refusal and its place, or the length, of each case of the answer

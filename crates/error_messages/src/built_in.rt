@@ -1,6 +1,5 @@
 // The built-in types by name: u16, i16, bool and String.
 ghost use Rattle.std.specs.Prelude.{◌≡◌, [], ◌≤◌, length};
-ghost use Rattle.contract.specs.Moments.{old};
 ghost use Rattle.types.specs.Table.{Decides};
 ghost use Rattle.names.specs.Names.{name_count};
 ghost use Rattle.layout.specs.Layout.{max_bytes};
@@ -21,7 +20,7 @@ pub(crate) fn is_built_in<'a>(
 ) -> bool
     requires s_len_bound { (length s.now ≤ max_bytes) × NamesListed s.now places.now }
     requires names_value { names ≡ name_count s.now }
-    ensures { Decides (ExistsAs (inputs (old s) (old built_in) [] 0) BuiltIn name) result }
+    ensures { Decides (ExistsAs (inputs s.now built_in.now [] 0) BuiltIn name) result }
 {
     if names <= name {
         return false;
@@ -48,7 +47,7 @@ pub(crate) fn built_in_text<'a>(
 ) -> &'a [u8]
     requires s_len_bound { (length s.now ≤ max_bytes) × NamesListed s.now places.now }
     requires exists_as { ExistsAs (inputs s.now built_in.now [] 0) BuiltIn name }
-    ensures { result.now ≡ text_of (inputs (old s) (old built_in) [] 0) BuiltIn 0 name }
+    ensures { result.now ≡ text_of (inputs s.now built_in.now [] 0) BuiltIn 0 name }
 {
     let text = name_text(s, built_in, places, name);
     if same_bytes(text, b"String") {

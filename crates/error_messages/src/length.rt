@@ -1,6 +1,5 @@
 // How long messages are, counted no further than one past the longest text.
 ghost use Rattle.std.specs.Prelude.{◌≡◌, ◌≤◌, ◌*◌, length};
-ghost use Rattle.contract.specs.Moments.{old};
 ghost use Rattle.fallible.specs.Errors.{error_width, errors_from};
 ghost use Rattle.meaning.specs.Context.{All};
 ghost use Rattle.text.specs.Length.{capped};
@@ -27,10 +26,10 @@ fn piece_length<'a>(
     byte: u8,
     word: u32,
 ) -> u32
-    requires ready { Ready (given_inputs s built_in rows count) places.now work.now }
-    requires exists_as { ExistsAs (given_inputs s built_in rows count) (piece_of byte) word }
+    requires ready { Ready (given_inputs s.now built_in.now rows.now count) places.now work.now }
+    requires exists_as { ExistsAs (given_inputs s.now built_in.now rows.now count) (piece_of byte) word }
     ensures { result ≡ capped (length
-        (text_of (old_inputs s built_in rows count) (piece_of byte) byte word)) }
+        (text_of (old_inputs s.now built_in.now rows.now count) (piece_of byte) byte word)) }
 {
     let piece = piece_of(byte);
     match piece {
@@ -54,11 +53,11 @@ fn message_length<'a>(
     work: &[u32],
     error: &[u32],
 ) -> u32
-    requires ready { Ready (given_inputs s built_in rows count) places.now work.now }
+    requires ready { Ready (given_inputs s.now built_in.now rows.now count) places.now work.now }
     requires error_width_in_bounds { (error_width ≤ length error.now)
-        × Readable (given_inputs s built_in rows count) (error_in error.now) }
+        × Readable (given_inputs s.now built_in.now rows.now count) (error_in error.now) }
     ensures { result ≡ capped (length
-        (description_of (old_inputs s built_in rows count) (error_in (old error)))) }
+        (description_of (old_inputs s.now built_in.now rows.now count) (error_in error.now))) }
 {
     let lines = all_lines();
     let bounds = line_bounds(error[0]);
@@ -86,10 +85,10 @@ pub(crate) fn messages_length<'a>(
     errors: &[u32],
     many: usize,
 ) -> u32
-    requires ready { Ready (given_inputs s built_in rows count) places.now work.now }
+    requires ready { Ready (given_inputs s.now built_in.now rows.now count) places.now work.now }
     requires many_in_bounds { (error_width * many ≤ length errors.now)
-        × All (Readable (given_inputs s built_in rows count)) (errors_from errors.now 0 many) }
-    ensures { result ≡ capped (length (messages_of (old_inputs s built_in rows count) (old errors) many)) }
+        × All (Readable (given_inputs s.now built_in.now rows.now count)) (errors_from errors.now 0 many) }
+    ensures { result ≡ capped (length (messages_of (old_inputs s.now built_in.now rows.now count) errors.now many)) }
 {
     let mut total: u32 = 0;
     let mut i: usize = 0;

@@ -8,7 +8,6 @@ mod write;
 
 ghost use Rattle.std.specs.Prelude.{◌≡◌, ◌≤◌, length};
 ghost use Rattle.std.proofs.Math.Option.{none};
-ghost use Rattle.contract.specs.Moments.{old};
 ghost use Rattle.listing.specs.Names.{NamesListed};
 ghost use Rattle.module_tests.specs.Refusal.{module_refusal};
 ghost use Rattle.error_messages.specs.Messages.{Sound, Answered};
@@ -43,9 +42,9 @@ fn measure_and_write<'a>(
     text: &mut [u8],
 ) -> Answer
     requires s_value { (module_refusal s.now ≡ none) × NamesListed s.now places.now }
-    requires sound { Sound (given_inputs s built_in rows count) errors.now many
+    requires sound { Sound (given_inputs s.now built_in.now rows.now count) errors.now many
         × (count ≤ length work.old) }
-    ensures { Answered (old_inputs s built_in rows count) (old errors) many
+    ensures { Answered (old_inputs s.now built_in.now rows.now count) errors.now many
         (loan_before text work) (loan_after text work) (outcome_of result) }
 {
     fill_lengths(s, built_in, places, rows, count, work);
@@ -79,7 +78,7 @@ fn test_and_write<'a>(
     text: &mut [u8],
 ) -> Answer
     requires { module_refusal s.now ≡ none }
-    ensures { Answered (old_inputs s built_in rows count) (old errors) many
+    ensures { Answered (old_inputs s.now built_in.now rows.now count) errors.now many
         (loan_before text work) (loan_after text work) (outcome_of result) }
 {
     let place: usize = 0;
@@ -110,7 +109,7 @@ pub fn messages<'a>(
     work: &mut [u32],
     text: &mut [u8],
 ) -> Answer
-    ensures { Answered (old_inputs s built_in rows count) (old errors) error_count
+    ensures { Answered (old_inputs s.now built_in.now rows.now count) errors.now error_count
         (loan_before text work) (loan_after text work) (outcome_of result) }
 {
     let refusal = module_refusal(s);

@@ -1,6 +1,5 @@
 // Test 8: whether everything that messages read exists.
 ghost use Rattle.std.specs.Prelude.{◌≡◌, ◌≤◌, ◌*◌, length};
-ghost use Rattle.contract.specs.Moments.{old};
 ghost use Rattle.types.specs.Table.{Table, Decides};
 ghost use Rattle.fallible.specs.Errors.{error_width, errors_from};
 ghost use Rattle.layout.specs.Layout.{max_bytes};
@@ -34,8 +33,8 @@ fn piece_exists<'a>(
     byte: u8,
     word: u32,
 ) -> bool
-    requires { Known (given_inputs s built_in rows count) places.now marks.now names }
-    ensures { Decides (ExistsAs (old_inputs s built_in rows count) (piece_of byte) word) result }
+    requires { Known (given_inputs s.now built_in.now rows.now count) places.now marks.now names }
+    ensures { Decides (ExistsAs (old_inputs s.now built_in.now rows.now count) (piece_of byte) word) result }
 {
     let piece = piece_of(byte);
     match piece {
@@ -60,9 +59,9 @@ fn is_readable<'a>(
     count: u32,
     error: &[u32],
 ) -> bool
-    requires known { Known (given_inputs s built_in rows count) places.now marks.now names }
+    requires known { Known (given_inputs s.now built_in.now rows.now count) places.now marks.now names }
     requires error_width_in_bounds { error_width ≤ length error.now }
-    ensures { Decides (Readable (old_inputs s built_in rows count) (error_in (old error))) result }
+    ensures { Decides (Readable (old_inputs s.now built_in.now rows.now count) (error_in error.now)) result }
 {
     let lines = all_lines();
     let bounds = line_bounds(error[0]);
@@ -94,10 +93,10 @@ fn all_readable<'a>(
     errors: &[u32],
     many: usize,
 ) -> bool
-    requires known { Known (given_inputs s built_in rows count) places.now marks.now names }
+    requires known { Known (given_inputs s.now built_in.now rows.now count) places.now marks.now names }
     requires many_in_bounds { error_width * many ≤ length errors.now }
     ensures { Decides
-        (All (Readable (old_inputs s built_in rows count)) (errors_from (old errors) 0 many)) result }
+        (All (Readable (old_inputs s.now built_in.now rows.now count)) (errors_from errors.now 0 many)) result }
 {
     let mut i: usize = 0;
     while i < many {
@@ -113,7 +112,7 @@ fn all_readable<'a>(
 // Whether the name of row n, if it has one, is String's or below the number of names.
 fn has_name(rows: &[u32], count: u32, n: u32, names: u32) -> bool
     requires { Table rows.now count × (1 ≤ n) × (n ≤ count) }
-    ensures { Decides (Named (old rows) n names) result }
+    ensures { Decides (Named rows.now n names) result }
 {
     let kind = types::kind(rows, count, n);
     if kind < ALIAS {
@@ -132,7 +131,7 @@ fn has_name(rows: &[u32], count: u32, n: u32, names: u32) -> bool
 // Whether every name of the rows exists.
 fn has_names(s: &[u8], rows: &[u32], count: u32) -> bool
     requires { Table rows.now count }
-    ensures { Decides (NamesExist (old s) (old rows) count) result }
+    ensures { Decides (NamesExist s.now rows.now count) result }
 {
     let names = name_count(s);
     let mut n: u32 = 0;
@@ -159,7 +158,7 @@ pub(crate) fn is_sound<'a>(
 ) -> bool
     requires s_len_bound { (length s.now ≤ max_bytes) × Marked s.now marks.now }
     requires names_listed { NamesListed s.now places.now × (names ≡ name_count s.now) }
-    ensures { Decides (Sound (old_inputs s built_in rows count) (old errors) many) result }
+    ensures { Decides (Sound (old_inputs s.now built_in.now rows.now count) errors.now many) result }
 {
     if !is_table(rows, count) {
         return false;

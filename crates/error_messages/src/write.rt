@@ -1,6 +1,5 @@
 // Messages written into a lent text.
 ghost use Rattle.std.specs.Prelude.{◌≤◌, ◌*◌, length};
-ghost use Rattle.contract.specs.Moments.{old, final};
 ghost use Rattle.fallible.specs.Errors.{error_width, errors_from};
 ghost use Rattle.meaning.specs.Context.{All};
 ghost use Rattle.text.specs.Written.{Fits, Written};
@@ -29,11 +28,11 @@ fn write_piece<'a>(
     text: &mut [u8],
     at: usize,
 ) -> usize
-    requires ready { Ready (given_inputs s built_in rows count) places.now work.now }
-    requires exists_as { ExistsAs (given_inputs s built_in rows count) (piece_of byte) word }
-    requires fits { Fits (text_of (given_inputs s built_in rows count) (piece_of byte) byte word) text.old at }
-    ensures { Written (text_of (old_inputs s built_in rows count) (piece_of byte) byte word)
-        (old text) (final text) at result }
+    requires ready { Ready (given_inputs s.now built_in.now rows.now count) places.now work.now }
+    requires exists_as { ExistsAs (given_inputs s.now built_in.now rows.now count) (piece_of byte) word }
+    requires fits { Fits (text_of (given_inputs s.now built_in.now rows.now count) (piece_of byte) byte word) text.old at }
+    ensures { Written (text_of (old_inputs s.now built_in.now rows.now count) (piece_of byte) byte word)
+        text.old text.new at result }
 {
     let piece = piece_of(byte);
     match piece {
@@ -62,13 +61,13 @@ fn write_message<'a>(
     text: &mut [u8],
     from: usize,
 ) -> usize
-    requires ready { Ready (given_inputs s built_in rows count) places.now work.now }
+    requires ready { Ready (given_inputs s.now built_in.now rows.now count) places.now work.now }
     requires error_width_in_bounds { (error_width ≤ length error.now)
-        × Readable (given_inputs s built_in rows count) (error_in error.now) }
-    requires fits { Fits (description_of (given_inputs s built_in rows count) (error_in error.now))
+        × Readable (given_inputs s.now built_in.now rows.now count) (error_in error.now) }
+    requires fits { Fits (description_of (given_inputs s.now built_in.now rows.now count) (error_in error.now))
         text.old from }
-    ensures { Written (description_of (old_inputs s built_in rows count) (error_in (old error)))
-        (old text) (final text) from result }
+    ensures { Written (description_of (old_inputs s.now built_in.now rows.now count) (error_in error.now))
+        text.old text.new from result }
 {
     let lines = all_lines();
     let bounds = line_bounds(error[0]);
@@ -96,12 +95,12 @@ pub(crate) fn write_messages<'a>(
     many: usize,
     text: &mut [u8],
 ) -> usize
-    requires ready { Ready (given_inputs s built_in rows count) places.now work.now }
+    requires ready { Ready (given_inputs s.now built_in.now rows.now count) places.now work.now }
     requires many_in_bounds { (error_width * many ≤ length errors.now)
-        × All (Readable (given_inputs s built_in rows count)) (errors_from errors.now 0 many) }
-    requires fits { Fits (messages_of (given_inputs s built_in rows count) errors.now many) text.old 0 }
-    ensures { Written (messages_of (old_inputs s built_in rows count) (old errors) many)
-        (old text) (final text) 0 result }
+        × All (Readable (given_inputs s.now built_in.now rows.now count)) (errors_from errors.now 0 many) }
+    requires fits { Fits (messages_of (given_inputs s.now built_in.now rows.now count) errors.now many) text.old 0 }
+    ensures { Written (messages_of (old_inputs s.now built_in.now rows.now count) errors.now many)
+        text.old text.new 0 result }
 {
     let mut at: usize = 0;
     let mut i: usize = 0;

@@ -4,7 +4,6 @@
 #![tactic(auto)]
 
 ghost use Rattle.std.specs.Prelude.{◌≡◌};
-ghost use Rattle.contract.specs.Moments.{old, final};
 ghost use Rattle.types.specs.Table.{unfolded};
 ghost use Rattle.relations.specs.Relations.{types_are_assignable};
 ghost use Rattle.relations.specs.WordSize.{as_word};
@@ -32,10 +31,10 @@ pub extern "C" fn delta_null_type_check_module(
     error_count: &mut usize,
     place: &mut usize,
 ) -> u32
-    ensures { ModuleTold (old input)
+    ensures { ModuleTold input.now
         (buffers_before output rows errors work)
         (buffers_after output rows errors work)
-        (reply result (final row_count) (final error_count) (final place)) }
+        (reply result row_count.new error_count.new place.new) }
 {
     let answer = type_check::type_check_module(input, output, rows, errors, work);
     match answer {
@@ -60,8 +59,8 @@ pub extern "C" fn delta_null_type_check_module(
 // The number of an answer of messages, with the length of the text or the place of the refusal.
 fn put_length(given: error_messages::Answer, length: &mut usize, place: &mut usize) -> u32
     ensures { (result ≡ refusal_number (textOutcome given))
-        × (final length ≡ value_of text_length (textOutcome given))
-        × (final place ≡ refusal_place (textOutcome given)) }
+        × (length.new ≡ value_of text_length (textOutcome given))
+        × (place.new ≡ refusal_place (textOutcome given)) }
 {
     match given {
         error_messages::Answer::Written(written) => {
@@ -91,10 +90,10 @@ pub extern "C" fn delta_null_messages<'a>(
     length: &mut usize,
     place: &mut usize,
 ) -> u32
-    ensures { MessagesTold (old_inputs input built_in rows row_count) (old errors) error_count
+    ensures { MessagesTold (old_inputs input.now built_in.now rows.now row_count) errors.now error_count
         (loan_before text work)
         (loan_after text work)
-        result (final length) (final place) }
+        result length.new place.new }
 {
     let given = error_messages::messages(
         input,
@@ -118,7 +117,7 @@ fn yes_word(yes: bool) -> u32
 
 // The number of an answer of yes or no, which is written as 1 or 0.
 fn put_answer(given: queries::Answer, answer: &mut u32) -> u32
-    ensures { (result ≡ refusal_number (answered_of given)) × (final answer ≡ value_of as_number (answered_of given)) }
+    ensures { (result ≡ refusal_number (answered_of given)) × (answer.new ≡ value_of as_number (answered_of given)) }
 {
     match given {
         queries::Answer::Is(yes) => {
@@ -141,8 +140,8 @@ pub extern "C" fn delta_null_assignable(
     source: u32,
     answer: &mut u32,
 ) -> u32
-    ensures { AnswerTold (old rows) count target source
-        (types_are_assignable (unfolded (old rows) target) (unfolded (old rows) source)) result (final answer) }
+    ensures { AnswerTold rows.now count target source
+        (types_are_assignable (unfolded rows.now target) (unfolded rows.now source)) result answer.new }
 {
     put_answer(queries::assignable(rows, count, target, source), answer)
 }
@@ -150,8 +149,8 @@ pub extern "C" fn delta_null_assignable(
 // The number of a cast's answer, which is written as 1 or 0 with the number of pairs that were tried.
 fn put_cast(given: CastAnswer, answer: &mut u32, pairs: &mut u64) -> u32
     ensures { (result ≡ refusal_number (searched_of given))
-        × (final answer ≡ value_of fits_number (searched_of given))
-        × (final pairs ≡ value_of pairs_number (searched_of given)) }
+        × (answer.new ≡ value_of fits_number (searched_of given))
+        × (pairs.new ≡ value_of pairs_number (searched_of given)) }
 {
     match given {
         CastAnswer::Searched(found) => {
@@ -177,8 +176,8 @@ pub extern "C" fn delta_null_castable(
     answer: &mut u32,
     pairs: &mut u64,
 ) -> u32
-    ensures { CastTold (old rows) count source target
-        (cast_search (unfolded (old rows) source) (unfolded (old rows) target)) result (final answer) (final pairs) }
+    ensures { CastTold rows.now count source target
+        (cast_search (unfolded rows.now source) (unfolded rows.now target)) result answer.new pairs.new }
 {
     let given = queries::castable(rows, count, source, target);
     put_cast(given, answer, pairs)
@@ -197,7 +196,7 @@ fn size_word(size: WordSize) -> u32
 
 // The number of an answer of a size, which is written as one word.
 fn put_size(given: Measured, size: &mut u32) -> u32
-    ensures { (result ≡ refusal_number (measured_of given)) × (final size ≡ value_of as_word (measured_of given)) }
+    ensures { (result ≡ refusal_number (measured_of given)) × (size.new ≡ value_of as_word (measured_of given)) }
 {
     match given {
         Measured::Size(found) => {
@@ -214,7 +213,7 @@ fn put_size(given: Measured, size: &mut u32) -> u32
 // How many words the type of row n has: the row's fifth word.
 #[unsafe(no_mangle)]
 pub extern "C" fn delta_null_word_size(rows: &[u32], count: u32, n: u32, size: &mut u32) -> u32
-    ensures { SizeTold (old rows) count n result (final size) }
+    ensures { SizeTold rows.now count n result size.new }
 {
     put_size(queries::words(rows, count, n), size)
 }

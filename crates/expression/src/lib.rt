@@ -2,7 +2,6 @@
 #![tactic(auto)]
 
 ghost use Rattle.std.specs.Prelude.{◌≡◌};
-ghost use Rattle.contract.specs.Moments.{old, final};
 ghost use Rattle.shape.specs.Kinds as kinds;
 ghost use Rattle.shape.specs.Shape.{is_between, an_expression};
 ghost use Rattle.shape.specs.declared.Holds.TheVariants.{Expressions};
@@ -38,9 +37,9 @@ fn leaf(
 ) -> Typed
     requires leaf_in { LeafIn s.now node kind }
     requires leaf_ready { LeafReady s.now work.now output.old index.now }
-    ensures { LeafCarried (old s) node (old work)
-        (old output) (old errors) state
-        (final output) (final errors) result }
+    ensures { LeafCarried s.now node work.now
+        output.old errors.old state
+        output.new errors.new result }
 {
     let at = node.at;
     match kind {
@@ -80,10 +79,10 @@ fn sizeof(
     state: State,
 ) -> Typed
     requires fine_node { FineNode s.now node an_expression × (kind_at s.now node.at ≡ kinds.sizeof) }
-    requires ready { Ready s.now (given work output errors rows index state) }
-    ensures { CarriedNode (old s) names node
-        (before work output errors rows index state)
-        (after work output errors rows index result.state) result.ty }
+    requires ready { Ready s.now (given work.now output errors rows index state) }
+    ensures { CarriedNode s.now names node
+        (before work.now output errors rows index state)
+        (after work.now output errors rows index result.state) result.ty }
 {
     let pass = Pass { names, fill: true };
     let at = node.at + FIELD_END;
@@ -120,10 +119,10 @@ pub fn type_check_expression(
     state: State,
 ) -> Typed
     requires fine_node { FineNode s.now node an_expression }
-    requires ready { Ready s.now (given work output errors rows index state) }
-    ensures { CarriedNode (old s) names node
-        (before work output errors rows index state)
-        (after work output errors rows index result.state) result.ty }
+    requires ready { Ready s.now (given work.now output errors rows index state) }
+    ensures { CarriedNode s.now names node
+        (before work.now output errors rows index state)
+        (after work.now output errors rows index result.state) result.ty }
 {
     let kind = half(s, node.at + KIND);
     if kind <= STRING {
@@ -158,10 +157,10 @@ fn one_operand(
     state: State,
 ) -> Typed
     requires one_operand_in { OneOperandIn s.now head }
-    requires ready { Ready s.now (given work output errors rows index state) }
-    ensures { CarriedNode (old s) names (node_of head)
-        (before work output errors rows index state)
-        (after work output errors rows index result.state) result.ty }
+    requires ready { Ready s.now (given work.now output errors rows index state) }
+    ensures { CarriedNode s.now names (node_of head)
+        (before work.now output errors rows index state)
+        (after work.now output errors rows index result.state) result.ty }
 {
     let at = head.start;
     let depth = head.depth - 1;
@@ -187,10 +186,10 @@ fn two_operands(
     state: State,
 ) -> Typed
     requires two_operands_in { TwoOperandsIn s.now head }
-    requires ready { Ready s.now (given work output errors rows index state) }
-    ensures { CarriedNode (old s) names (node_of head)
-        (before work output errors rows index state)
-        (after work output errors rows index result.state) result.ty }
+    requires ready { Ready s.now (given work.now output errors rows index state) }
+    ensures { CarriedNode s.now names (node_of head)
+        (before work.now output errors rows index state)
+        (after work.now output errors rows index result.state) result.ty }
 {
     let at = head.start;
     let depth = head.depth - 1;
@@ -222,10 +221,10 @@ fn cast(
     state: State,
 ) -> Typed
     requires fine_node { FineNode s.now node an_expression × (kind_at s.now node.at ≡ kinds.cast) }
-    requires ready { Ready s.now (given work output errors rows index state) }
-    ensures { CarriedNode (old s) names node
-        (before work output errors rows index state)
-        (after work output errors rows index result.state) result.ty }
+    requires ready { Ready s.now (given work.now output errors rows index state) }
+    ensures { CarriedNode s.now names node
+        (before work.now output errors rows index state)
+        (after work.now output errors rows index result.state) result.ty }
 {
     let at = node.at + FIELD_END;
     let depth = node.depth - 1;
@@ -257,10 +256,10 @@ fn call(
     state: State,
 ) -> Typed
     requires fine_node { FineNode s.now node an_expression × (kind_at s.now node.at ≡ kinds.call) }
-    requires ready { Ready s.now (given work output errors rows index state) }
-    ensures { CarriedNode (old s) names node
-        (before work output errors rows index state)
-        (after work output errors rows index result.state) result.ty }
+    requires ready { Ready s.now (given work.now output errors rows index state) }
+    ensures { CarriedNode s.now names node
+        (before work.now output errors rows index state)
+        (after work.now output errors rows index result.state) result.ty }
 {
     let at = node.at + FIELD_END;
     let depth = node.depth - 1;
@@ -291,10 +290,10 @@ pub fn type_check_expressions(
     state: State,
 ) -> State
     requires fine_nodes { FineNodes s.now list Expressions }
-    requires ready { Ready s.now (given work output errors rows index state) }
-    ensures { CarriedNodes (old s) names list
-        (before work output errors rows index state)
-        (after work output errors rows index result) }
+    requires ready { Ready s.now (given work.now output errors rows index state) }
+    ensures { CarriedNodes s.now names list
+        (before work.now output errors rows index state)
+        (after work.now output errors rows index result) }
 {
     let end = list.end;
     let depth = list.depth;

@@ -2,7 +2,6 @@
 #![tactic(auto)]
 
 ghost use Rattle.std.specs.Prelude.{◌≡◌, ◌+◌, ◌*◌, ◌≤◌, length};
-ghost use Rattle.contract.specs.Moments.{old, final};
 ghost use Rattle.shape.specs.Kinds as kinds;
 ghost use Rattle.literal.specs.Digits.{DigitTable};
 ghost use Rattle.row_index.specs.Index.{digits_in, Indexed};
@@ -52,9 +51,9 @@ pub fn report_unless(
     state: State,
 ) -> State
     requires { head_end at ≤ length s.now }
-    ensures { ReportedUnless holds (error_for (old s) at kind first second third)
-        (old errors) state
-        (final errors) result }
+    ensures { ReportedUnless holds (error_for s.now at kind first second third)
+        errors.old state
+        errors.new result }
 {
     if holds {
         return state;
@@ -76,7 +75,7 @@ fn or_unknown(row: u32) -> u32
 // What stands first in a type of this kind, or Unknown.
 pub fn part_of(rows: &[u32], count: u32, kind: u32, ty: u32) -> u32
     requires { OneType rows.now count ty × (pointer_kind ≤ kind) × (kind ≡ struct_kind → ⊥) }
-    ensures { Shows (old rows) count result (part_of kind (unfolded (old rows) ty)) }
+    ensures { Shows rows.now count result (part_of kind (unfolded rows.now ty)) }
 {
     if types::kind(rows, count, ty) == kind {
         return types::part(rows, count, ty);
@@ -87,7 +86,7 @@ pub fn part_of(rows: &[u32], count: u32, kind: u32, ty: u32) -> u32
 // The working word of a local, then of an argument, then of a global; 0 if there is none.
 fn resolve_identifier(work: &[u32], name: u32) -> u32
     requires { work_width * (name + 1) ≤ length work.now }
-    ensures { result ≡ resolved_word (old work) name }
+    ensures { result ≡ resolved_word work.now name }
 {
     let local = walk::word_of(work, name, LOCAL);
     if local != 0 {
@@ -104,7 +103,7 @@ fn resolve_identifier(work: &[u32], name: u32) -> u32
 pub fn identifier(s: &[u8], work: &[u32], at: usize, errors: &mut [u32], state: State) -> Typed
     requires at_in_bounds { fields_end at ≤ length s.now }
     requires at_in_bounds_2 { work_width * (word_at s.now (field_end at) + 1) ≤ length work.now }
-    ensures { Identifier (old s) (old work) at (old errors) state (final errors) result }
+    ensures { Identifier s.now work.now at errors.old state errors.new result }
 {
     let name = word(s, at + FIELD_END);
     let row = resolve_identifier(work, name);
@@ -119,7 +118,7 @@ pub fn identifier(s: &[u8], work: &[u32], at: usize, errors: &mut [u32], state: 
 // The error of the bad literal at `at`, the one error that has a place.
 fn literal_error(s: &[u8], at: usize) -> Error
     requires { (head_end at ≤ length s.now) × (length s.now ≤ max_bytes) }
-    ensures { result ≡ literal_error (old s) at }
+    ensures { result ≡ literal_error s.now at }
 {
     Error {
         kind: LITERAL_OUT_OF_RANGE,
@@ -143,7 +142,7 @@ pub fn integer(
 ) -> Typed
     requires at_bound { (fields_end at ≤ stop_at s.now at) × (stop_at s.now at ≤ length s.now) × (length s.now ≤ max_bytes) }
     requires digit_table { DigitTable (digits_in index.now) }
-    ensures { Integer (old s) at (old errors) state (final errors) result }
+    ensures { Integer s.now at errors.old state errors.new result }
 {
     let base = word(s, at + FIELD_END);
     let start = at + FIELDS_END;
@@ -175,7 +174,7 @@ fn pointer_take(
 ) -> Typed
     requires one_type { OneType rows.old state.rows ty }
     requires indexed { Indexed rows.old state.rows index.old }
-    ensures { Makes (Pointer ty) (old rows) (old index) state (final rows) (final index) result }
+    ensures { Makes (Pointer ty) rows.old index.old state rows.new index.new result }
 {
     walk::make(rows, index, state, Row::Pointer(ty))
 }
@@ -190,7 +189,7 @@ fn dereference(
     state: State,
 ) -> Typed
     requires { (fields_end at ≤ length s.now) × OneType rows.now state.rows ty }
-    ensures { UnaryKept kinds.pointer_dereference (old s) at ty (old rows) (old errors) state (final errors) result }
+    ensures { UnaryKept kinds.pointer_dereference s.now at ty rows.now errors.old state errors.new result }
 {
     let holds = types::kind(rows, state.rows, ty) == types::POINTER;
     let next = report_unless(holds, s, at, NOT_A_POINTER, ty, 0, 0, errors, state);
@@ -210,7 +209,7 @@ fn field_access(
     state: State,
 ) -> Typed
     requires { (fields_end at ≤ length s.now) × OneType rows.now state.rows ty }
-    ensures { UnaryKept kinds.field_access (old s) at ty (old rows) (old errors) state (final errors) result }
+    ensures { UnaryKept kinds.field_access s.now at ty rows.now errors.old state errors.new result }
 {
     let name = word(s, at + FIELD_END);
     let bare = types::desugar(rows, state.rows, ty);
@@ -240,7 +239,7 @@ fn bitwise_not(
     state: State,
 ) -> Typed
     requires { (fields_end at ≤ length s.now) × OneType rows.now state.rows ty }
-    ensures { UnaryKept kinds.bitwise_not (old s) at ty (old rows) (old errors) state (final errors) result }
+    ensures { UnaryKept kinds.bitwise_not s.now at ty rows.now errors.old state errors.new result }
 {
     let holds = relations::is_integral(types::kind(rows, state.rows, ty));
     let next = report_unless(holds, s, at, NO_BITWISE_NOT, ty, 0, 0, errors, state);
@@ -257,7 +256,7 @@ fn boolean_not(
     state: State,
 ) -> Typed
     requires { (fields_end at ≤ length s.now) × OneType rows.now state.rows ty }
-    ensures { UnaryKept kinds.boolean_not (old s) at ty (old rows) (old errors) state (final errors) result }
+    ensures { UnaryKept kinds.boolean_not s.now at ty rows.now errors.old state errors.new result }
 {
     let holds = types::kind(rows, state.rows, ty) == types::BOOL;
     let next = report_unless(holds, s, at, NO_BOOLEAN_NOT, ty, 0, 0, errors, state);
@@ -277,9 +276,9 @@ pub fn unary(
 ) -> Typed
     requires at_in_bounds { (fields_end at ≤ length s.now) × OneType rows.old state.rows ty }
     requires indexed { Indexed rows.old state.rows index.old }
-    ensures { Unary kind (old s) at ty
-        (old rows) (old index) (old errors) state
-        (final rows) (final index) (final errors) result }
+    ensures { Unary kind s.now at ty
+        rows.old index.old errors.old state
+        rows.new index.new errors.new result }
 {
     match kind {
         POINTER_TAKE => pointer_take(ty, rows, index, state),
@@ -303,7 +302,7 @@ fn index(
 ) -> Typed
     requires { (fields_end at ≤ length s.now) × (head_end place ≤ length s.now)
         × TwoTypes rows.now state.rows left right }
-    ensures { Binary kinds.index (old s) at left place right (old rows) (old errors) state (final errors) result }
+    ensures { Binary kinds.index s.now at left place right rows.now errors.old state errors.new result }
 {
     let holds = types::kind(rows, state.rows, right) == types::U16;
     let next = report_unless(holds, s, place, NOT_AN_INDEX, right, 0, 0, errors, state);
@@ -326,9 +325,9 @@ fn boolean_and(
 ) -> Typed
     requires { (fields_end at ≤ length s.now) × (head_end place ≤ length s.now)
         × TwoTypes rows.now state.rows left right }
-    ensures { Binary kinds.boolean_and (old s) at left place right
-        (old rows) (old errors) state
-        (final errors) result }
+    ensures { Binary kinds.boolean_and s.now at left place right
+        rows.now errors.old state
+        errors.new result }
 {
     let left_is = types::kind(rows, state.rows, left) == types::BOOL;
     let right_is = types::kind(rows, state.rows, right) == types::BOOL;
@@ -345,7 +344,7 @@ fn boolean_and(
 // Whether arithmetic is defined on two desugared types: equal integers, or pointer then integer.
 fn computes(rows: &[u32], count: u32, left: u32, right: u32) -> bool
     requires { TwoTypes rows.now count left right }
-    ensures { result ≡ computing (unfolded (old rows) left) (unfolded (old rows) right) }
+    ensures { result ≡ computing (unfolded rows.now left) (unfolded rows.now right) }
 {
     let kind = types::kind(rows, count, left);
     if relations::is_integral(kind) {
@@ -369,9 +368,9 @@ fn arithmetic(
     state: State,
 ) -> Typed
     requires { (fields_end at ≤ length s.now) × TwoTypes rows.now state.rows left right }
-    ensures { Arithmetic (old s) at operator left right
-        (old rows) (old errors) state
-        (final errors) result }
+    ensures { Arithmetic s.now at operator left right
+        rows.now errors.old state
+        errors.new result }
 {
     let l = types::desugar(rows, state.rows, left);
     let r = types::desugar(rows, state.rows, right);
@@ -395,9 +394,9 @@ pub fn binary(
 ) -> Typed
     requires { (fields_end at ≤ length s.now) × (head_end place ≤ length s.now)
         × TwoTypes rows.now state.rows left right }
-    ensures { Binary kind (old s) at left place right
-        (old rows) (old errors) state
-        (final errors) result }
+    ensures { Binary kind s.now at left place right
+        rows.now errors.old state
+        errors.new result }
 {
     match kind {
         INDEX => index(s, at, left, place, right, errors, rows, state),
@@ -428,7 +427,7 @@ pub fn cast(
     state: State,
 ) -> State
     requires { (head_end at ≤ length s.now) × TwoTypes rows.now state.rows source target }
-    ensures { Cast (old s) at source target (old rows) (old errors) state (final errors) result }
+    ensures { Cast s.now at source target rows.now errors.old state errors.new result }
 {
     let holds = relations::is_castable_to(rows, state.rows, source, target);
     report_unless(holds, s, at, NOT_CASTABLE, source, target, 0, errors, state)
@@ -445,9 +444,9 @@ pub fn check_types_are_assignable(
     state: State,
 ) -> State
     requires { (head_end at ≤ length s.now) × TwoTypes rows.now state.rows target source }
-    ensures { CheckAssignable (old s) at target source
-        (old rows) (old errors) state
-        (final errors) result }
+    ensures { CheckAssignable s.now at target source
+        rows.now errors.old state
+        errors.new result }
 {
     let holds = relations::types_are_assignable(rows, state.rows, target, source);
     let kind = NOT_ASSIGNABLE;

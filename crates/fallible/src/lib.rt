@@ -4,7 +4,6 @@
 pub mod kinds;
 
 ghost use Rattle.std.specs.Prelude.{◌≡◌};
-ghost use Rattle.contract.specs.Moments.{old, final};
 ghost use Rattle.fallible.specs.Errors.{error_list, pushed};
 
 // The words of an error in the list.
@@ -27,7 +26,7 @@ pub struct Error {
 // Adds an error to the `count` there are, and returns the new count. An error that finds no room is only counted, and
 // the count stays one past the room.
 pub fn push_error(errors: &mut [u32], count: usize, error: Error) -> usize
-    ensures { error_list (final errors) result ≡ pushed (error_list (old errors) count) error }
+    ensures { error_list errors.new result ≡ pushed (error_list errors.old count) error }
 {
     let room = errors.len() / ERROR_WIDTH;
     if room <= count {

@@ -1,7 +1,6 @@
 // The value that a variable starts with.
 #![tactic(auto)]
 
-ghost use Rattle.contract.specs.Moments.{old};
 ghost use Rattle.node.specs.Fine.{FineList};
 ghost use Rattle.shape.specs.declared.Holds.TheVariants.{InitialValue};
 ghost use Rattle.relations.specs.TypeRows.{OneType};
@@ -42,11 +41,11 @@ pub fn type_check_initial(
     state: State,
 ) -> State
     requires fine_list { FineList s.now value.depth value.from value.end InitialValue }
-    requires ready { Ready s.now (given work output errors rows index state) }
+    requires ready { Ready s.now (given work.now output errors rows index state) }
     requires one_type { OneType rows.old state.rows value.ty }
-    ensures { ValueChecked (old s) names value
-        (before work output errors rows index state)
-        (after work output errors rows index result) }
+    ensures { ValueChecked s.now names value
+        (before work.now output errors rows index state)
+        (after work.now output errors rows index result) }
 {
     let at = value.from;
     let depth = value.depth;

@@ -2,7 +2,6 @@
 #![tactic(auto)]
 
 ghost use Rattle.std.specs.Prelude.{◌*◌, ◌≤◌, ◌≡◌, ◌||◌, eqb, length};
-ghost use Rattle.contract.specs.Moments.{old, final};
 ghost use Rattle.shape.specs.Kinds as kinds;
 ghost use Rattle.shape.specs.Shape.{a_statement, an_item};
 ghost use Rattle.shape.specs.declared.Holds.TheVariants.{Parameters, Items};
@@ -59,10 +58,10 @@ fn type_check_parameters(
     state: State,
 ) -> ParametersEnd
     requires fine_nodes { FineNodes s.now list Parameters }
-    requires ready { Ready s.now (given work output errors rows index state) }
-    ensures { CheckedParameters (old s) names list result.at
-        (before work output errors rows index state)
-        (after work output errors rows index result.state) }
+    requires ready { Ready s.now (given work.old output errors rows index state) }
+    ensures { CheckedParameters s.now names list result.at
+        (before work.old output errors rows index state)
+        (after work.new output errors rows index result.state) }
 {
     let end = list.end;
     let levels = list.depth;
@@ -88,7 +87,7 @@ fn type_check_parameters(
 // Whether a body needs no return: void itself is returned, which is row 2, or all paths diverge.
 fn needs_no_return(s: &[u8], node: Node, returned: u32) -> bool
     requires { FineNode s.now node a_statement }
-    ensures { result ≡ (eqb returned 2 || do_all_paths_diverge (statement_at (old s) node.depth node.at)) }
+    ensures { result ≡ (eqb returned 2 || do_all_paths_diverge (statement_at s.now node.depth node.at)) }
 {
     if returned == types::VOID {
         return true;
@@ -109,11 +108,11 @@ fn type_check_body(
     state: State,
 ) -> State
     requires at_in_bounds { (field_end body.at ≤ length s.now) × NodesLeft s.now body.left }
-    requires ready { Ready s.now (given work output errors rows index state) }
+    requires ready { Ready s.now (given work.old output errors rows index state) }
     requires one_type { OneType rows.old state.rows function.returned }
-    ensures { CheckedBody (old s) function body
-        (before work output errors rows index state)
-        (after work output errors rows index result) }
+    ensures { CheckedBody s.now function body
+        (before work.old output errors rows index state)
+        (after work.new output errors rows index result) }
 {
     let left = body.left;
     if left.end <= left.from {
@@ -131,7 +130,7 @@ fn type_check_body(
 
 // Clears the words of locals and arguments of all names, which stand side by side.
 fn clear_all_locals(work: &mut [u32])
-    ensures { Cleared (old work) (final work) }
+    ensures { Cleared work.old work.new }
 {
     let mut i = walk::LOCAL;
     while i + 1 < work.len() {
@@ -150,7 +149,7 @@ fn clear_function(s: &[u8], parameters: Nodes, body: usize, work: &mut [u32])
     requires fine_nodes { FineNodes s.now parameters Parameters }
     requires body_left { BodyLeft s.now parameters.depth body parameters.end }
     requires s_in_bounds { work_width * name_count s.now ≤ length work.old }
-    ensures { ClearedFunction (old s) parameters body (old work) (final work) }
+    ensures { ClearedFunction s.now parameters body work.old work.new }
 {
     if work.len() <= parameters.end - parameters.from {
         clear_all_locals(work);
@@ -178,10 +177,10 @@ fn type_check_function(
     state: State,
 ) -> State
     requires fine_node { FineNode s.now node an_item × (kind_at s.now node.at ≡ kinds.function_definition) }
-    requires ready { Ready s.now (given work output errors rows index state) }
-    ensures { ItemNodeChecked (old s) names node
-        (before work output errors rows index state)
-        (after work output errors rows index result) }
+    requires ready { Ready s.now (given work.old output errors rows index state) }
+    ensures { ItemNodeChecked s.now names node
+        (before work.old output errors rows index state)
+        (after work.new output errors rows index result) }
 {
     let end = node.at + length_at(s, node.at);
     let at = node.at + FIELD_END;
@@ -217,10 +216,10 @@ fn type_check_alias(
     state: State,
 ) -> State
     requires fine_node { FineNode s.now node an_item × (kind_at s.now node.at ≡ kinds.type_alias) }
-    requires ready { Ready s.now (given work output errors rows index state) }
-    ensures { ItemNodeChecked (old s) names node
-        (before work output errors rows index state)
-        (after work output errors rows index result) }
+    requires ready { Ready s.now (given work.now output errors rows index state) }
+    ensures { ItemNodeChecked s.now names node
+        (before work.now output errors rows index state)
+        (after work.now output errors rows index result) }
 {
     let at = node.at + FIELDS_END;
     let depth = node.depth - 1;
@@ -243,10 +242,10 @@ fn type_check_variable(
     state: State,
 ) -> State
     requires fine_node { FineNode s.now node an_item × (kind_at s.now node.at ≡ kinds.global_declaration) }
-    requires ready { Ready s.now (given work output errors rows index state) }
-    ensures { ItemNodeChecked (old s) names node
-        (before work output errors rows index state)
-        (after work output errors rows index result) }
+    requires ready { Ready s.now (given work.now output errors rows index state) }
+    ensures { ItemNodeChecked s.now names node
+        (before work.now output errors rows index state)
+        (after work.now output errors rows index result) }
 {
     let end = node.at + length_at(s, node.at);
     let at = node.at + FIELD_END;
@@ -279,10 +278,10 @@ fn type_check_item(
     state: State,
 ) -> State
     requires fine_node { FineNode s.now node an_item }
-    requires ready { Ready s.now (given work output errors rows index state) }
-    ensures { ItemNodeChecked (old s) names node
-        (before work output errors rows index state)
-        (after work output errors rows index result) }
+    requires ready { Ready s.now (given work.old output errors rows index state) }
+    ensures { ItemNodeChecked s.now names node
+        (before work.old output errors rows index state)
+        (after work.new output errors rows index result) }
 {
     let kind = half(s, node.at + KIND);
     match kind {
@@ -310,10 +309,10 @@ pub fn type_check_items(
     state: State,
 ) -> State
     requires fine_nodes { FineNodes s.now list Items }
-    requires ready { Ready s.now (given work output errors rows index state) }
-    ensures { ItemNodesChecked (old s) names list
-        (before work output errors rows index state)
-        (after work output errors rows index result) }
+    requires ready { Ready s.now (given work.old output errors rows index state) }
+    ensures { ItemNodesChecked s.now names list
+        (before work.old output errors rows index state)
+        (after work.new output errors rows index result) }
 {
     let end = list.end;
     let depth = list.depth;

@@ -2,7 +2,6 @@
 #![tactic(auto)]
 
 ghost use Rattle.std.specs.Prelude.{◌≡◌, ◌+◌, ◌≤◌, length};
-ghost use Rattle.contract.specs.Moments.{old};
 ghost use Rattle.layout.specs.Layout.{Part, is_bad, head_at, LayoutOfList, layout_refusal};
 ghost use Rattle.layout.specs.Layout.{layout_tests};
 
@@ -37,7 +36,7 @@ pub enum Head {
 // does not allow.
 fn is_bad(s: &[u8], names: u32, nth: usize, fields: usize, rule: Rule, at: usize) -> bool
     requires { nth ≤ fields → at + 4 ≤ length s.now }
-    ensures { result ≡ is_bad names (old s) nth fields rule at }
+    ensures { result ≡ is_bad names s.now nth fields rule at }
 {
     if fields < nth {
         return false;
@@ -48,7 +47,7 @@ fn is_bad(s: &[u8], names: u32, nth: usize, fields: usize, rule: Rule, at: usize
 // The head of the record that is due at `at`, in a list that ends at `end`.
 fn head_at(s: &[u8], names: u32, at: usize, end: usize, due: Due) -> Head
     requires { Part s.now at end }
-    ensures { result ≡ head_at names (old s) at end due }
+    ensures { result ≡ head_at names s.now at end due }
 {
     let room = end - at;
     if room < HEAD_END {
@@ -83,7 +82,7 @@ fn head_at(s: &[u8], names: u32, at: usize, end: usize, due: Due) -> Head
 // The layout of a child list, with so many levels left for its records.
 fn walk_list(s: &[u8], names: u32, from: usize, end: usize, depth: usize, holds: Holds) -> Layout
     requires { Part s.now from end }
-    ensures { LayoutOfList names (old s) depth from end holds result }
+    ensures { LayoutOfList names s.now depth from end holds result }
 {
     let mut at = from;
     let mut state = holds;
@@ -123,7 +122,7 @@ fn walk_list(s: &[u8], names: u32, from: usize, end: usize, depth: usize, holds:
 
 // Refusals 1 to 3, in the order in which a walk in byte order meets them. A file of no bytes has none.
 pub fn check_layout(s: &[u8]) -> Layout
-    ensures { layout_refusal result ≡ layout_tests (old s) }
+    ensures { layout_refusal result ≡ layout_tests s.now }
 {
     let n = s.len();
     if n == 0 {

@@ -2,7 +2,6 @@
 #![tactic(auto)]
 
 ghost use Rattle.std.specs.Prelude.{◌≡◌, ◌≤◌, length, replicate};
-ghost use Rattle.contract.specs.Moments.{old, final};
 ghost use Rattle.rows.specs.Search.{Decides};
 ghost use Rattle.record_bytes.specs.Bytes.{head_end};
 ghost use Rattle.layout.specs.Layout.{max_bytes};
@@ -23,7 +22,7 @@ pub const MAX_NAMES: usize = 4096;
 // Stores the places of a module's names, by number, and answers how many there are.
 pub fn list_names(s: &[u8], places: &mut [u16]) -> u32
     requires { (length s.now ≤ max_bytes) × (max_names ≤ length places.old) }
-    ensures { NamesFound (old s) (old places) (final places) result }
+    ensures { NamesFound s.now places.old places.new result }
 {
     if s.len() < FIELD_END {
         return 0;
@@ -45,7 +44,7 @@ pub fn list_names(s: &[u8], places: &mut [u16]) -> u32
 // Marks the place of a record if it is a literal.
 fn mark_here(s: &[u8], at: usize, marks: &mut [u8])
     requires { (head_end at ≤ length s.now) × (length s.now ≤ length marks.old) }
-    ensures { final marks ≡ marked_here (old s) at (old marks) }
+    ensures { marks.new ≡ marked_here s.now at marks.old }
 {
     if half(s, at + KIND) == INTEGER {
         marks[at] = 1;
@@ -55,7 +54,7 @@ fn mark_here(s: &[u8], at: usize, marks: &mut [u8])
 // Where the children of the record from `at` to `stop` start: at `stop` if free bytes follow its fields.
 fn children_start(s: &[u8], at: usize, stop: usize) -> usize
     requires { (head_end at ≤ stop) × (stop ≤ length s.now) }
-    ensures { result ≡ children_start (old s) at stop }
+    ensures { result ≡ children_start s.now at stop }
 {
     let kind = half(s, at + KIND);
     let shape = shape_of(kind);
@@ -71,7 +70,7 @@ fn children_start(s: &[u8], at: usize, stop: usize) -> usize
 // Marks the places of the literals among the records from `from` to `end`, so many levels deep.
 fn mark_records(s: &[u8], depth: usize, from: usize, end: usize, marks: &mut [u8])
     requires { (end ≤ length s.now) × (length s.now ≤ length marks.old) }
-    ensures { final marks ≡ mark_all (literals_in (records_at (old s) depth from end)) (old marks) }
+    ensures { marks.new ≡ mark_all (literals_in (records_at s.now depth from end)) marks.old }
 {
     if depth < 1 {
         return;
@@ -92,8 +91,8 @@ fn mark_records(s: &[u8], depth: usize, from: usize, end: usize, marks: &mut [u8
 // Marks the places of a module's literals. The marks begin as 0, one for each byte that a module may have.
 pub fn mark_literals(s: &[u8], marks: &mut [u8])
     requires { (length s.now ≤ max_bytes) × (marks.old ≡ replicate max_bytes 0) }
-    ensures marked { Marked (old s) (final marks) }
-    ensures marks_value { final marks ≡ mark_all (literal_places (old s)) (old marks) }
+    ensures marked { Marked s.now marks.new }
+    ensures marks_value { marks.new ≡ mark_all (literal_places s.now) marks.old }
 {
     mark_records(s, MAX_DEPTH, 0, s.len(), marks);
 }
@@ -101,7 +100,7 @@ pub fn mark_literals(s: &[u8], marks: &mut [u8])
 // Whether a literal stands at a place.
 pub fn is_literal(s: &[u8], marks: &[u8], place: u32) -> bool
     requires { Marked s.now marks.now }
-    ensures { Decides (IsLiteral (old s) place) result }
+    ensures { Decides (IsLiteral s.now place) result }
 {
     let at = place as usize;
     if s.len() <= at {
@@ -113,7 +112,7 @@ pub fn is_literal(s: &[u8], marks: &[u8], place: u32) -> bool
 // The digits of the literal at a place.
 pub fn literal_text(s: &[u8], place: usize) -> &[u8]
     requires { LiteralStands s.now place }
-    ensures { result.now ≡ literal_text (old s) place }
+    ensures { result.now ≡ literal_text s.now place }
 {
     let length = length_at(s, place);
     if length < FIELDS_END {

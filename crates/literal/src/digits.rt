@@ -1,6 +1,5 @@
 // The table of digits: what each byte is worth in a literal.
 ghost use Rattle.std.specs.Prelude.{◌≡◌, length};
-ghost use Rattle.contract.specs.Moments.{final};
 ghost use Rattle.literal.specs.Digits.{bytes, DigitTable};
 
 // How many bytes there are.
@@ -30,7 +29,7 @@ const DIGIT_VALUES: [u8; 256] = [
 // that was written once.
 pub fn put_digits(table: &mut [u16])
     requires { length table.old ≡ bytes }
-    ensures { DigitTable (final table) }
+    ensures { DigitTable table.new }
 {
     let values = DIGIT_VALUES;
     let mut byte: usize = 0;

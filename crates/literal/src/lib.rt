@@ -4,7 +4,6 @@
 pub mod digits;
 
 ghost use Rattle.std.specs.Prelude.{◌≡◌, ◌≤◌};
-ghost use Rattle.contract.specs.Moments.{old};
 ghost use Rattle.literal.specs.Literal.{parse_digits, from_str_radix, parsed_value};
 ghost use Rattle.literal.specs.Digits.{DigitTable};
 
@@ -27,7 +26,7 @@ const U16_MAX: u32 = 65535;
 fn parse_digits(digits: &[u8], base: u32, table: &[u16]) -> Parsed
     requires le_base { (2 ≤ base) × (base ≤ 36) }
     requires digit_table { DigitTable table.now }
-    ensures { parsed_value result ≡ parse_digits base (old digits) }
+    ensures { parsed_value result ≡ parse_digits base digits.now }
 {
     if digits.len() < 1 {
         return Parsed::Invalid;
@@ -52,7 +51,7 @@ fn parse_digits(digits: &[u8], base: u32, table: &[u16]) -> Parsed
 // Reads a literal: perhaps a `+`, then digits of a base of 2 to 36, letters of either case. The table is lent.
 pub fn from_str_radix_with(text: &[u8], base: u32, table: &[u16]) -> Parsed
     requires { DigitTable table.now }
-    ensures { parsed_value result ≡ from_str_radix base (old text) }
+    ensures { parsed_value result ≡ from_str_radix base text.now }
 {
     if base < MIN_BASE {
         return Parsed::Invalid;
@@ -71,7 +70,7 @@ pub fn from_str_radix_with(text: &[u8], base: u32, table: &[u16]) -> Parsed
 
 // Reads a literal with a table of its own.
 pub fn from_str_radix(text: &[u8], base: u32) -> Parsed
-    ensures { parsed_value result ≡ from_str_radix base (old text) }
+    ensures { parsed_value result ≡ from_str_radix base text.now }
 {
     let mut table = [0u16; BYTES];
     put_digits(&mut table);

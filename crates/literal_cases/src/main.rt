@@ -4,7 +4,6 @@
 #![tactic(auto)]
 
 ghost use Rattle.std.specs.Prelude.{◌≡◌};
-ghost use Rattle.contract.specs.Moments.{old, final};
 ghost use Rattle.literal.specs.Literal.{parsed_value};
 ghost use Rattle.program_support.specs.Buffer.{PutAll};
 ghost use Rattle.literal_cases.specs.Lines.{byte_value, byte_alone, bytes_alone, base_line, base_lines};
@@ -28,7 +27,7 @@ const U32_MAX: u64 = 4294967295;
 
 // ` BYTE=VALUE`
 fn put_value(buffer: &mut [u8], used: usize, byte: u8, value: u16) -> usize
-    ensures { PutAll (byte_value byte value) (old buffer) used (final buffer) result }
+    ensures { PutAll (byte_value byte value) buffer.old used buffer.new result }
 {
     let blank = put_text(buffer, used, b" ");
     let named = put_word(buffer, blank, byte as u32);
@@ -38,7 +37,7 @@ fn put_value(buffer: &mut [u8], used: usize, byte: u8, value: u16) -> usize
 
 // The value of the text that is this byte, if it has one.
 fn put_byte(buffer: &mut [u8], used: usize, base: u32, byte: u8) -> usize
-    ensures { PutAll (byte_alone base byte) (old buffer) used (final buffer) result }
+    ensures { PutAll (byte_alone base byte) buffer.old used buffer.new result }
 {
     let text = [byte];
     let parsed = from_str_radix(&text, base);
@@ -50,7 +49,7 @@ fn put_byte(buffer: &mut [u8], used: usize, base: u32, byte: u8) -> usize
 
 // The values of all bytes.
 fn put_bytes(buffer: &mut [u8], used: usize, base: u32) -> usize
-    ensures { PutAll (bytes_alone base 256) (old buffer) used (final buffer) result }
+    ensures { PutAll (bytes_alone base 256) buffer.old used buffer.new result }
 {
     let mut held = used;
     let mut byte: u32 = 0;
@@ -63,7 +62,7 @@ fn put_bytes(buffer: &mut [u8], used: usize, base: u32) -> usize
 
 // The line of a base.
 fn put_base(buffer: &mut [u8], used: usize, base: u32) -> usize
-    ensures { PutAll (base_line base) (old buffer) used (final buffer) result }
+    ensures { PutAll (base_line base) buffer.old used buffer.new result }
 {
     let named = put_word(buffer, used, base);
     let held = put_bytes(buffer, named, base);
@@ -72,7 +71,7 @@ fn put_base(buffer: &mut [u8], used: usize, base: u32) -> usize
 
 // The lines of all bases.
 fn put_bases(buffer: &mut [u8], used: usize) -> usize
-    ensures { PutAll (base_lines 39) (old buffer) used (final buffer) result }
+    ensures { PutAll (base_lines 39) buffer.old used buffer.new result }
 {
     let mut held = used;
     let mut base: u32 = 0;
@@ -92,7 +91,7 @@ enum Base {
 
 // Reads a number of 32 bits in decimal digits.
 fn read_base(digits: &[u8]) -> Base
-    ensures { base_read result ≡ decimal (old digits) }
+    ensures { base_read result ≡ decimal digits.now }
 {
     if digits.len() < 1 {
         return Base::None;
@@ -118,7 +117,7 @@ fn read_base(digits: &[u8]) -> Base
 
 // The line that answers a text: its value, or `invalid`.
 fn put_answer(buffer: &mut [u8], used: usize, parsed: Parsed) -> usize
-    ensures { PutAll (answer_line (parsed_value parsed)) (old buffer) used (final buffer) result }
+    ensures { PutAll (answer_line (parsed_value parsed)) buffer.old used buffer.new result }
 {
     match parsed {
         Parsed::Value(value) => {
@@ -131,7 +130,7 @@ fn put_answer(buffer: &mut [u8], used: usize, parsed: Parsed) -> usize
 
 // The line that answers a line of the input.
 fn put_case(buffer: &mut [u8], used: usize, line: &[u8]) -> usize
-    ensures { PutAll (case_line (old line)) (old buffer) used (final buffer) result }
+    ensures { PutAll (case_line line.now) buffer.old used buffer.new result }
 {
     let blank = find(line, 0, line.len(), b' ');
     if line.len() <= blank {
@@ -149,7 +148,7 @@ fn put_case(buffer: &mut [u8], used: usize, line: &[u8]) -> usize
 
 // The lines that answer the input.
 fn put_cases(buffer: &mut [u8], used: usize, input: &[u8]) -> usize
-    ensures { PutAll (case_lines (old input)) (old buffer) used (final buffer) result }
+    ensures { PutAll (case_lines input.now) buffer.old used buffer.new result }
 {
     let mut held = used;
     let mut at = 0;

@@ -2,7 +2,6 @@
 #![tactic(auto)]
 
 ghost use Rattle.std.specs.Prelude.{◌≡◌};
-ghost use Rattle.contract.specs.Moments.{old};
 ghost use Rattle.names.specs.Names.{name_test};
 ghost use Rattle.module_tests.specs.Refusal.{refusal_of, module_refusal};
 
@@ -19,7 +18,7 @@ pub enum Refusal {
 
 // Test 4.
 fn name_refusal(input: &[u8]) -> Refusal
-    ensures { refusal_of result ≡ name_test (old input) }
+    ensures { refusal_of result ≡ name_test input.now }
 {
     let repeated = repeated_name(input);
     match repeated {
@@ -30,7 +29,7 @@ fn name_refusal(input: &[u8]) -> Refusal
 
 // Tests 1 to 4: why the module is turned back, whatever is lent.
 pub fn module_refusal(input: &[u8]) -> Refusal
-    ensures { refusal_of result ≡ module_refusal (old input) }
+    ensures { refusal_of result ≡ module_refusal input.now }
 {
     let layout = check_layout(input);
     match layout {

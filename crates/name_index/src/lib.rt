@@ -2,7 +2,6 @@
 #![tactic(auto)]
 
 ghost use Rattle.std.specs.Prelude.{◌≡◌, ◌+◌, ◌≤◌, length};
-ghost use Rattle.contract.specs.Moments.{old};
 ghost use Rattle.record_bytes.specs.Bytes.{head_size, field_size};
 ghost use Rattle.names.specs.Names.{name_refusal, name_test};
 ghost use Rattle.name_index.specs.NameIndex.{indexed, Hashed, HasNames, Looked};
@@ -22,7 +21,7 @@ const INDEXED: usize = 65536;
 
 // The hash of a text.
 fn hash(text: &[u8]) -> usize
-    ensures { Hashed (old text) result }
+    ensures { Hashed text.now result }
 {
     let mut h: u64 = 0;
     let mut i: usize = 0;
@@ -37,7 +36,7 @@ fn hash(text: &[u8]) -> usize
 fn is_listed(s: &[u8], index: &[u16; INDEX], text: &[u8], h: usize) -> bool
     requires s_len_bound { (length s.now ≤ indexed) × HasNames s.now index.now }
     requires hashed { Hashed text.now h }
-    ensures { Looked (old s) (old index) (old text) result }
+    ensures { Looked s.now index.now text.now result }
 {
     let mut at = index[h] as usize;
     while at != 0 {
@@ -54,7 +53,7 @@ fn is_listed(s: &[u8], index: &[u16; INDEX], text: &[u8], h: usize) -> bool
 // number.
 fn repeated_in_long(s: &[u8]) -> Repeated
     requires { head_size + field_size ≤ length s.now }
-    ensures { name_refusal result ≡ name_test (old s) }
+    ensures { name_refusal result ≡ name_test s.now }
 {
     let end = names_end(s);
     let mut at: usize = FIRST_NAME;
@@ -74,7 +73,7 @@ fn repeated_in_long(s: &[u8]) -> Repeated
 
 // Refusal 4. Each name is looked for among those before it that have its hash.
 pub fn repeated_name(s: &[u8]) -> Repeated
-    ensures { name_refusal result ≡ name_test (old s) }
+    ensures { name_refusal result ≡ name_test s.now }
 {
     if s.len() < FIELD_END {
         return Repeated::Nowhere;

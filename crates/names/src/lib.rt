@@ -2,7 +2,6 @@
 #![tactic(auto)]
 
 ghost use Rattle.std.specs.Prelude.{◌≡◌, ◌+◌, ◌≤◌, length};
-ghost use Rattle.contract.specs.Moments.{old};
 ghost use Rattle.record_bytes.specs.Bytes.{word_at, head_size, field_size, head_end};
 ghost use Rattle.names.specs.Names.{Following, NamesEnd, name_bytes, name_count, same_bytes, number_of, built_ins};
 
@@ -30,7 +29,7 @@ pub const FIRST_NAME: usize = 32;
 // Where the record at `at` ends, if a whole one stands there in a part that ends at `end`; else `at`.
 pub fn next_place(s: &[u8], at: usize, end: usize) -> usize
     requires { end ≤ length s.now }
-    ensures { Following (old s) at end result }
+    ensures { Following s.now at end result }
 {
     if end < at {
         return at;
@@ -52,7 +51,7 @@ pub fn next_place(s: &[u8], at: usize, end: usize) -> usize
 // Where the record of the names ends.
 pub fn names_end(s: &[u8]) -> usize
     requires { head_size + field_size ≤ length s.now }
-    ensures { NamesEnd (old s) result }
+    ensures { NamesEnd s.now result }
 {
     let len = length_at(s, HEAD_END);
     if s.len() < HEAD_END + len {
@@ -63,7 +62,7 @@ pub fn names_end(s: &[u8]) -> usize
 
 // How many names a module has.
 pub fn name_count(s: &[u8]) -> u32
-    ensures { result ≡ name_count (old s) }
+    ensures { result ≡ name_count s.now }
 {
     if s.len() < FIELD_END {
         return 0;
@@ -85,7 +84,7 @@ pub fn name_count(s: &[u8]) -> u32
 pub fn name_at(s: &[u8], at: usize, stop: usize) -> &[u8]
     requires at_bound { (head_end at ≤ stop) × (stop ≤ length s.now) }
     requires stop_value { stop ≡ at + word_at s.now at }
-    ensures { result.now ≡ name_bytes (old s) at }
+    ensures { result.now ≡ name_bytes s.now at }
 {
     let start = at + HEAD_END;
     &s[start..stop]
@@ -93,7 +92,7 @@ pub fn name_at(s: &[u8], at: usize, stop: usize) -> &[u8]
 
 // Whether two texts are the same.
 pub fn same_bytes(a: &[u8], b: &[u8]) -> bool
-    ensures { result ≡ same_bytes (old a) (old b) }
+    ensures { result ≡ same_bytes a.now b.now }
 {
     if a.len() != b.len() {
         return false;
@@ -110,7 +109,7 @@ pub fn same_bytes(a: &[u8], b: &[u8]) -> bool
 
 // The number of the first name with these bytes, or the number of names.
 pub fn find_name(s: &[u8], text: &[u8]) -> u32
-    ensures { result ≡ number_of (old s) (old text) }
+    ensures { result ≡ number_of s.now text.now }
 {
     if s.len() < FIELD_END {
         return 0;
@@ -133,7 +132,7 @@ pub fn find_name(s: &[u8], text: &[u8]) -> u32
 
 // The numbers of the built-in types' names.
 pub fn built_ins(s: &[u8]) -> BuiltIns
-    ensures { result ≡ built_ins (old s) }
+    ensures { result ≡ built_ins s.now }
 {
     BuiltIns {
         u16: find_name(s, b"u16"),

@@ -1,7 +1,6 @@
 // Printing on standard output by way of a buffer, so that many lines go out in one write. The first bytes of the
 // buffer are held for the next write, and each function gives how many are held after it. Numbers are in decimal.
 ghost use Rattle.std.specs.Prelude.{◌≡◌, ◌+◌, ◌≤◌, min, ◌++◌, length, take, drop};
-ghost use Rattle.contract.specs.Moments.{old, final};
 ghost use Rattle.program_support.specs.Buffer.{Put, PutNumber, PutAll, word_pieces, refused_line};
 
 use libc::STDOUT_FILENO;
@@ -18,8 +17,8 @@ fn least(a: usize, b: usize) -> usize
 // Copies a text behind the bytes that are held.
 fn append(buffer: &mut [u8], used: usize, text: &[u8]) -> usize
     requires { used + length text.now ≤ length buffer.old }
-    ensures value { result ≡ used + length (old text) }
-    ensures buffer_value { final buffer ≡ take used (old buffer) ++ old text ++ drop result (old buffer) }
+    ensures value { result ≡ used + length text.now }
+    ensures buffer_value { buffer.new ≡ take used buffer.old ++ text.now ++ drop result buffer.old }
 {
     used + bytes::copy(text, &mut buffer[used..])
 }
@@ -27,7 +26,7 @@ fn append(buffer: &mut [u8], used: usize, text: &[u8]) -> usize
 // Puts a text into the buffer. If it does not fit, what is held is written first; a text that is longer than the
 // buffer is written too.
 pub fn put_text(buffer: &mut [u8], used: usize, text: &[u8]) -> usize
-    ensures { Put (old buffer) used (old text) (final buffer) result }
+    ensures { Put buffer.old used text.now buffer.new result }
 {
     let held = least(used, buffer.len());
     if text.len() <= buffer.len() - held {
@@ -42,7 +41,7 @@ pub fn put_text(buffer: &mut [u8], used: usize, text: &[u8]) -> usize
 }
 
 pub fn put_number(buffer: &mut [u8], used: usize, n: u64) -> usize
-    ensures { PutNumber (old buffer) used n (final buffer) result }
+    ensures { PutNumber buffer.old used n buffer.new result }
 {
     let mut text = [0u8; 20];
     let k = io::decimal(n, &mut text);
@@ -50,14 +49,14 @@ pub fn put_number(buffer: &mut [u8], used: usize, n: u64) -> usize
 }
 
 pub fn put_word(buffer: &mut [u8], used: usize, n: u32) -> usize
-    ensures { PutNumber (old buffer) used n (final buffer) result }
+    ensures { PutNumber buffer.old used n buffer.new result }
 {
     put_number(buffer, used, n as u64)
 }
 
 // Words, a blank before each.
 pub fn put_words(buffer: &mut [u8], used: usize, words: &[u32]) -> usize
-    ensures { PutAll (word_pieces (old words)) (old buffer) used (final buffer) result }
+    ensures { PutAll (word_pieces words.now) buffer.old used buffer.new result }
 {
     let mut held = used;
     let mut i = 0;
@@ -71,7 +70,7 @@ pub fn put_words(buffer: &mut [u8], used: usize, words: &[u32]) -> usize
 
 // Why a module is turned back: `refused 2 at 40`.
 pub fn put_refused(buffer: &mut [u8], used: usize, number: u32, place: usize) -> usize
-    ensures { PutAll (refused_line number place) (old buffer) used (final buffer) result }
+    ensures { PutAll (refused_line number place) buffer.old used buffer.new result }
 {
     let refused = put_text(buffer, used, b"refused ");
     let numbered = put_word(buffer, refused, number);

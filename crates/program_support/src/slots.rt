@@ -1,7 +1,6 @@
 // The records of a module in byte order, and their slots. What the module's layout promises is tested here, not asked
 // for.
 ghost use Rattle.std.specs.Prelude.{◌<◌, length};
-ghost use Rattle.contract.specs.Moments.{old};
 ghost use Rattle.program_support.specs.Slots.{SlotPlace, NextRecord};
 
 use record_bytes::{FIELD, FIELD_END, HEAD_END, KIND, half, length_at};
@@ -10,7 +9,7 @@ use shape::{Rule, due_in, shape_of};
 // Where the slot of the record at `at` is. Where it has none (only types and expressions do) that is the end, with no
 // room for a field.
 pub fn slot_place(s: &[u8], at: usize) -> usize
-    ensures { SlotPlace (old s) at result }
+    ensures { SlotPlace s.now at result }
 {
     if s.len() < at {
         return s.len();
@@ -29,7 +28,7 @@ pub fn slot_place(s: &[u8], at: usize) -> usize
 // Where the record after the one at `at` starts, in byte order: after its free bytes, or where its children start.
 pub fn next_record(s: &[u8], at: usize) -> usize
     requires { at < length s.now }
-    ensures { NextRecord (old s) at result }
+    ensures { NextRecord s.now at result }
 {
     let room = s.len() - at;
     if room < HEAD_END {

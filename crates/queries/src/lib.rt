@@ -3,7 +3,6 @@
 #![tactic(auto)]
 
 ghost use Rattle.std.specs.Prelude.{◌≡◌, map};
-ghost use Rattle.contract.specs.Moments.{old};
 ghost use Rattle.types.specs.Table.{Decides, unfolded};
 ghost use Rattle.relations.specs.Relations.{types_are_assignable, pair, strips};
 ghost use Rattle.relations.specs.TypeRows.{OneType, TwoTypes};
@@ -42,7 +41,7 @@ pub enum Measured {
 
 // Whether the rows obey the rules, and n is a type row.
 fn one_type(rows: &[u32], count: u32, n: u32) -> bool
-    ensures { Decides (OneType (old rows) count n) result }
+    ensures { Decides (OneType rows.now count n) result }
 {
     if !validate_rows::is_table(rows, count) {
         return false;
@@ -52,7 +51,7 @@ fn one_type(rows: &[u32], count: u32, n: u32) -> bool
 
 // Whether the rows obey the rules, and both m and n are type rows.
 fn two_types(rows: &[u32], count: u32, m: u32, n: u32) -> bool
-    ensures { Decides (TwoTypes (old rows) count m n) result }
+    ensures { Decides (TwoTypes rows.now count m n) result }
 {
     if !one_type(rows, count, m) {
         return false;
@@ -63,7 +62,7 @@ fn two_types(rows: &[u32], count: u32, m: u32, n: u32) -> bool
 // The search over the strips of target, each with source as it stands.
 fn search_targets(rows: &[u32], count: u32, source: u32, target: u32) -> CastSearch
     requires { TwoTypes rows.now count source target }
-    ensures { result ≡ searched (map (pair (unfolded (old rows) source)) (strips (unfolded (old rows) target))) }
+    ensures { result ≡ searched (map (pair (unfolded rows.now source)) (strips (unfolded rows.now target))) }
 {
     let mut to = target;
     let mut pairs: u64 = 1;
@@ -82,7 +81,7 @@ fn search_targets(rows: &[u32], count: u32, source: u32, target: u32) -> CastSea
 // The search of a cast: the strips of source, and for each of them the strips of target.
 fn search_cast(rows: &[u32], count: u32, source: u32, target: u32) -> CastSearch
     requires { TwoTypes rows.now count source target }
-    ensures { result ≡ cast_search (unfolded (old rows) source) (unfolded (old rows) target) }
+    ensures { result ≡ cast_search (unfolded rows.now source) (unfolded rows.now target) }
 {
     let mut from = source;
     let mut before: u64 = 0;
@@ -102,8 +101,8 @@ fn search_cast(rows: &[u32], count: u32, source: u32, target: u32) -> CastSearch
 
 // Whether the type of row source may be assigned to that of row target.
 pub fn assignable(rows: &[u32], count: u32, target: u32, source: u32) -> Answer
-    ensures { Answers (old rows) count target source
-        (types_are_assignable (unfolded (old rows) target) (unfolded (old rows) source)) (answered_of result) }
+    ensures { Answers rows.now count target source
+        (types_are_assignable (unfolded rows.now target) (unfolded rows.now source)) (answered_of result) }
 {
     if !two_types(rows, count, target, source) {
         return Answer::Refused;
@@ -113,8 +112,8 @@ pub fn assignable(rows: &[u32], count: u32, target: u32, source: u32) -> Answer
 
 // Whether the type of row source may be cast to that of row target, and how many pairs were tried to find out.
 pub fn castable(rows: &[u32], count: u32, source: u32, target: u32) -> CastAnswer
-    ensures { Answers (old rows) count source target
-        (cast_search (unfolded (old rows) source) (unfolded (old rows) target)) (searched_of result) }
+    ensures { Answers rows.now count source target
+        (cast_search (unfolded rows.now source) (unfolded rows.now target)) (searched_of result) }
 {
     if !two_types(rows, count, source, target) {
         return CastAnswer::Refused;
@@ -124,7 +123,7 @@ pub fn castable(rows: &[u32], count: u32, source: u32, target: u32) -> CastAnswe
 
 // How many words the type of row n has.
 pub fn words(rows: &[u32], count: u32, n: u32) -> Measured
-    ensures { Measures (old rows) count n (measured_of result) }
+    ensures { Measures rows.now count n (measured_of result) }
 {
     if !one_type(rows, count, n) {
         return Measured::Refused;

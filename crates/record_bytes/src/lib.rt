@@ -2,7 +2,6 @@
 #![tactic(auto)]
 
 ghost use Rattle.std.specs.Prelude.{◌+◌, ◌<◌, ◌≤◌, length};
-ghost use Rattle.contract.specs.Moments.{old};
 ghost use Rattle.record_bytes.specs.Bytes.{Read, byte_at, half_at, word_at};
 
 // Where a record's kind, file, line and column stand in it, after its length.
@@ -27,7 +26,7 @@ pub const FIELD: usize = 4;
 // The byte at `at`.
 pub fn byte(s: &[u8], at: usize) -> u32
     requires { at < length s.now }
-    ensures { Read (byte_at (old s) at) 8 result }
+    ensures { Read (byte_at s.now at) 8 result }
 {
     s[at] as u32
 }
@@ -35,7 +34,7 @@ pub fn byte(s: &[u8], at: usize) -> u32
 // The two bytes at `at`.
 pub fn half(s: &[u8], at: usize) -> u32
     requires { at + 2 ≤ length s.now }
-    ensures { Read (half_at (old s) at) 16 result }
+    ensures { Read (half_at s.now at) 16 result }
 {
     byte(s, at) + byte(s, at + 1) * 256
 }
@@ -43,7 +42,7 @@ pub fn half(s: &[u8], at: usize) -> u32
 // The four bytes at `at`.
 pub fn word(s: &[u8], at: usize) -> u32
     requires { at + 4 ≤ length s.now }
-    ensures { Read (word_at (old s) at) 32 result }
+    ensures { Read (word_at s.now at) 32 result }
 {
     half(s, at) + half(s, at + 2) * 65536
 }
@@ -51,7 +50,7 @@ pub fn word(s: &[u8], at: usize) -> u32
 // The four bytes at `at`, as a length.
 pub fn length_at(s: &[u8], at: usize) -> usize
     requires { at + 4 ≤ length s.now }
-    ensures { Read (word_at (old s) at) 32 result }
+    ensures { Read (word_at s.now at) 32 result }
 {
     word(s, at) as usize
 }

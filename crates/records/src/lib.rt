@@ -3,7 +3,6 @@
 #![tactic(auto)]
 
 ghost use Rattle.std.specs.Prelude.{◌≡◌, ◌+◌, ◌*◌, ◌≤◌, length};
-ghost use Rattle.contract.specs.Moments.{old, final};
 ghost use Rattle.fallible.specs.Errors.{error_width, error_at};
 ghost use Rattle.type_check.specs.Post.{buffers_before, buffers_after, outcome_of};
 ghost use Rattle.records.specs.Records.{records_from, record_count, too_few_words, CheckedWords, CheckedRecords};
@@ -15,7 +14,7 @@ use type_check::{Answer, type_check_module};
 // The error at a number, from 0, by its words.
 fn error_at(words: &[u32], number: usize) -> Error
     requires { error_width * (number + 1) ≤ length words.now }
-    ensures { result ≡ error_at (old words) number }
+    ensures { result ≡ error_at words.now number }
 {
     let at = ERROR_WIDTH * number;
     Error {
@@ -33,7 +32,7 @@ fn error_at(words: &[u32], number: usize) -> Error
 // Fills the first `count` records from their words.
 fn fill_records(records: &mut [Error], words: &[u32], count: usize)
     requires { (count ≤ length records.old) × (error_width * count ≤ length words.now) }
-    ensures { final records ≡ records_from (old words) count (old records) }
+    ensures { records.new ≡ records_from words.now count records.old }
 {
     let mut i: usize = 0;
     while i < count {
@@ -44,7 +43,7 @@ fn fill_records(records: &mut [Error], words: &[u32], count: usize)
 
 // The answer where fewer words are lent than the records ask for: tests 1 to 4, then 5.
 fn too_few_words(input: &[u8]) -> Answer
-    ensures { outcome_of result ≡ too_few_words (old input) }
+    ensures { outcome_of result ≡ too_few_words input.now }
 {
     let refusal = module_refusal(input);
     match refusal {
@@ -65,7 +64,7 @@ fn check_words(
     records: usize,
     work: &mut [u32],
 ) -> Answer
-    ensures { CheckedWords (old input) records
+    ensures { CheckedWords input.now records
         (buffers_before output rows words work)
         (buffers_after output rows words work) (outcome_of result) }
 {
@@ -95,9 +94,9 @@ pub fn type_check_module_records(
     records: &mut [Error],
     work: &mut [u32],
 ) -> Answer
-    ensures { CheckedRecords (old input)
+    ensures { CheckedRecords input.now
         (buffers_before output rows words work)
-        (buffers_after output rows words work) (old records) (final records) (outcome_of result) }
+        (buffers_after output rows words work) records.old records.new (outcome_of result) }
 {
     let answer = check_words(input, output, rows, words, records.len(), work);
     let count = record_count(answer, records.len());

@@ -3,7 +3,6 @@
 #![tactic(auto)]
 
 ghost use Rattle.std.specs.Prelude.{◌≡◌, ◌+◌};
-ghost use Rattle.contract.specs.Moments.{old};
 ghost use Rattle.types.specs.Table.{unfolded};
 ghost use Rattle.types.specs.Post.{TypePart};
 ghost use Rattle.relations.specs.Relations.{types_are_assignable, pair, is_integral_kind};
@@ -29,7 +28,7 @@ pub enum WordSize {
 // Whether a value of the type source may be assigned to a place of the type target.
 pub fn types_are_assignable(rows: &[u32], count: u32, target: u32, source: u32) -> bool
     requires { TwoTypes rows.now count target source }
-    ensures { result ≡ types_are_assignable (unfolded (old rows) target) (unfolded (old rows) source) }
+    ensures { result ≡ types_are_assignable (unfolded rows.now target) (unfolded rows.now source) }
 {
     let mut to = target;
     let mut from = source;
@@ -89,7 +88,7 @@ fn cast_kinds(source: u32, target: u32) -> bool
 // Whether a pair fits as it stands.
 pub fn cast_fits(rows: &[u32], count: u32, source: u32, target: u32) -> bool
     requires { TwoTypes rows.now count source target }
-    ensures { result ≡ cast_fits (pair (unfolded (old rows) source) (unfolded (old rows) target)) }
+    ensures { result ≡ cast_fits (pair (unfolded rows.now source) (unfolded rows.now target)) }
 {
     if cast_kinds(
         types::kind(rows, count, source),
@@ -105,7 +104,7 @@ pub fn cast_fits(rows: &[u32], count: u32, source: u32, target: u32) -> bool
 // The last strip of a type: no distinct alias is left at its top.
 fn last_strip(rows: &[u32], count: u32, n: u32) -> u32
     requires { OneType rows.now count n }
-    ensures { TypePart (old rows) count (n + 1) (last_strip (unfolded (old rows) n)) result }
+    ensures { TypePart rows.now count (n + 1) (last_strip (unfolded rows.now n)) result }
 {
     types::strip_to(rows, count, n, NO_ROW)
 }
@@ -113,7 +112,7 @@ fn last_strip(rows: &[u32], count: u32, n: u32) -> u32
 // Whether what n desugars to is a distinct alias among the strips of top.
 fn is_strip_of(rows: &[u32], count: u32, n: u32, top: u32) -> bool
     requires { TwoTypes rows.now count n top }
-    ensures { result ≡ is_strip_of (unfolded (old rows) n) (unfolded (old rows) top) }
+    ensures { result ≡ is_strip_of (unfolded rows.now n) (unfolded rows.now top) }
 {
     let wanted = types::desugar(rows, count, n);
     if types::kind(rows, count, wanted) != types::DISTINCT_ALIAS {
@@ -126,7 +125,7 @@ fn is_strip_of(rows: &[u32], count: u32, n: u32, top: u32) -> bool
 // that are distinct aliases are equal, so are the last ones: a pair without a last strip need not be tried.
 pub fn is_castable_to(rows: &[u32], count: u32, source: u32, target: u32) -> bool
     requires { TwoTypes rows.now count source target }
-    ensures { result ≡ is_castable_to (unfolded (old rows) source) (unfolded (old rows) target) }
+    ensures { result ≡ is_castable_to (unfolded rows.now source) (unfolded rows.now target) }
 {
     let from = last_strip(rows, count, source);
     let to = last_strip(rows, count, target);
@@ -142,7 +141,7 @@ pub fn is_castable_to(rows: &[u32], count: u32, source: u32, target: u32) -> boo
 // How many words the type of row n has.
 pub fn word_size(rows: &[u32], count: u32, n: u32) -> WordSize
     requires { OneType rows.now count n }
-    ensures { result ≡ word_size_of (unfolded (old rows) n) }
+    ensures { result ≡ word_size_of (unfolded rows.now n) }
 {
     let word = types::words(rows, count, n);
     if word <= LARGEST {

@@ -3,7 +3,6 @@
 
 ghost use Rattle.std.specs.Prelude.{◌≡◌, ◌++◌, ◌+◌, ◌<◌, ◌≤◌, length, drop};
 ghost use Rattle.std.proofs.Math.Seq.{paste};
-ghost use Rattle.contract.specs.Moments.{old, final};
 ghost use Rattle.layout.specs.Layout.{layout_of};
 ghost use Rattle.layout.specs.declared.Layout.TheVariants.{Good};
 ghost use Rattle.reorder.specs.Order.{arranged, exchanged, modulus, next_number, permuted_by, shuffled_module};
@@ -32,7 +31,7 @@ const FACTOR: usize = 279470273;
 fn list_items(s: &[u8], places: &mut [usize]) -> usize
     requires s_value { layout_of s.now ≡ Good }
     requires max_items_in_bounds { max_items ≤ length places.old }
-    ensures { PlacesListed (old s) (final places) result }
+    ensures { PlacesListed s.now places.new result }
 {
     let mut at = items_start(s);
     let mut count: usize = 0;
@@ -47,7 +46,7 @@ fn list_items(s: &[u8], places: &mut [usize]) -> usize
 // Exchanges two places.
 fn exchange(places: &mut [usize], i: usize, j: usize)
     requires { (i < length places.old) × (j < length places.old) }
-    ensures { final places ≡ exchanged (old places) i j }
+    ensures { places.new ≡ exchanged places.old i j }
 {
     let first = places[i];
     places[i] = places[j];
@@ -64,7 +63,7 @@ fn next_number(number: usize) -> usize
 
 // Puts the places in an order that the number decides: each, from the last, is exchanged with one of those up to it.
 fn permute(places: &mut [usize], seed: usize)
-    ensures { final places ≡ permuted_by seed (old places) }
+    ensures { places.new ≡ permuted_by seed places.old }
 {
     let mut number = seed % MODULUS;
     let mut left = places.len();
@@ -78,7 +77,7 @@ fn permute(places: &mut [usize], seed: usize)
 // Copies bytes to a place of the output.
 fn copy_to(part: &[u8], output: &mut [u8], to: usize)
     requires { to + length part.now ≤ length output.old }
-    ensures { final output ≡ paste (old output) to (old part) (length (old part)) }
+    ensures { output.new ≡ paste output.old to part.now (length part.now) }
 {
     let mut i: usize = 0;
     while i < part.len() {
@@ -91,7 +90,7 @@ fn copy_to(part: &[u8], output: &mut [u8], to: usize)
 fn arrange(s: &[u8], places: &[usize], output: &mut [u8])
     requires places { Places s.now places.now }
     requires s_in_bounds { length s.now ≤ length output.old }
-    ensures { final output ≡ arranged (old s) (old places) ++ drop (length (old s)) (old output) }
+    ensures { output.new ≡ arranged s.now places.now ++ drop (length s.now) output.old }
 {
     let mut to = items_start(s);
     copy_to(&s[..to], output, 0);
@@ -111,7 +110,7 @@ fn write_items(input: &[u8], number: usize, places: &mut [usize], output: &mut [
     requires input_value { layout_of input.now ≡ Good }
     requires max_items_in_bounds { max_items ≤ length places.old }
     requires input_in_bounds { length input.now ≤ length output.old }
-    ensures { final output ≡ shuffled_module (old input) number ++ drop (length (old input)) (old output) }
+    ensures { output.new ≡ shuffled_module input.now number ++ drop (length input.now) output.old }
 {
     let count = list_items(input, places);
     permute(&mut places[..count], number);
@@ -121,7 +120,7 @@ fn write_items(input: &[u8], number: usize, places: &mut [usize], output: &mut [
 // The same, if the output is as long as the input.
 fn shuffle_items(input: &[u8], number: usize, output: &mut [u8]) -> Answer
     requires { layout_of input.now ≡ Good }
-    ensures { Shuffled (old input) number (old output) (final output) (outcome_of result) }
+    ensures { Shuffled input.now number output.old output.new (outcome_of result) }
 {
     if output.len() < input.len() {
         return Answer::Refused {
@@ -136,7 +135,7 @@ fn shuffle_items(input: &[u8], number: usize, output: &mut [u8]) -> Answer
 
 // Writes the module with its items in an order that the number decides; or says why it is turned back.
 pub fn shuffle(input: &[u8], number: usize, output: &mut [u8]) -> Answer
-    ensures { Shuffled (old input) number (old output) (final output) (outcome_of result) }
+    ensures { Shuffled input.now number output.old output.new (outcome_of result) }
 {
     let layout = check_layout(input);
     match layout {

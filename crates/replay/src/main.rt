@@ -12,7 +12,6 @@ mod output;
 mod row_numbers;
 
 ghost use Rattle.std.specs.Prelude.{◌+◌, ◌<◌, ◌≤◌, length};
-ghost use Rattle.contract.specs.Moments.{final};
 
 use judge::{Verdict, judge};
 use libc::STDIN_FILENO;
@@ -29,7 +28,7 @@ const SHOWN: u32 = 20;
 // cut.
 fn read_case(case: &mut [u8]) -> usize
     requires { 4 ≤ length case.old }
-    ensures { result ≤ length (final case) }
+    ensures { result ≤ length case.new }
 {
     if io::read_full(STDIN_FILENO, &mut case[0..4]) < 4 {
         return 0;

@@ -3,7 +3,6 @@
 #![tactic(auto)]
 
 ghost use Rattle.std.specs.Prelude.{◌≡◌, ◌≤◌, length, replicate, take};
-ghost use Rattle.contract.specs.Moments.{old, final};
 ghost use Rattle.type_check.specs.Post.{buffers_before, buffers_after, outcome_of};
 ghost use Rattle.records.specs.Records.{zero_record, CheckedRecords};
 ghost use Rattle.program_support.specs.Buffer.{PutAll};
@@ -50,7 +49,7 @@ fn report_module(
     words: &mut [u32],
     work: &mut [u32],
 ) -> Report
-    ensures { CheckedRecords (old input)
+    ensures { CheckedRecords input.now
         (buffers_before output rows words work)
         (buffers_after output rows words work)
         (replicate 2000 zero_record) result.errors (outcome_of result.answer) }
@@ -62,7 +61,7 @@ fn report_module(
 
 // Kind, file, line and column of an error.
 fn put_error(buffer: &mut [u8], used: usize, error: Error) -> usize
-    ensures { PutAll (error_line error) (old buffer) used (final buffer) result }
+    ensures { PutAll (error_line error) buffer.old used buffer.new result }
 {
     let kind = put_word(buffer, used, error.kind);
     let place = [error.file, error.line, error.column];
@@ -72,7 +71,7 @@ fn put_error(buffer: &mut [u8], used: usize, error: Error) -> usize
 
 fn put_errors(buffer: &mut [u8], used: usize, errors: [Error; ERROR_COUNT], count: usize) -> usize
     requires { (count ≤ 2000) × (count ≤ length errors) }
-    ensures { PutAll (error_lines (take count errors)) (old buffer) used (final buffer) result }
+    ensures { PutAll (error_lines (take count errors)) buffer.old used buffer.new result }
 {
     let mut held = used;
     let mut i = 0;
@@ -85,7 +84,7 @@ fn put_errors(buffer: &mut [u8], used: usize, errors: [Error; ERROR_COUNT], coun
 
 // `rows 7 errors 2`
 fn put_counts(buffer: &mut [u8], used: usize, rows: u32, errors: usize) -> usize
-    ensures { PutAll (counts_line rows errors) (old buffer) used (final buffer) result }
+    ensures { PutAll (counts_line rows errors) buffer.old used buffer.new result }
 {
     let rows_text = put_text(buffer, used, b"rows ");
     let rows_count = put_word(buffer, rows_text, rows);

@@ -4,7 +4,6 @@
 #![tactic(auto)]
 
 ghost use Rattle.std.specs.Prelude.{◌≡◌, ◌*◌, ◌≤◌, ◌<◌, length};
-ghost use Rattle.contract.specs.Moments.{old, final};
 ghost use Rattle.rows.specs.Row.{row_width, Distinct};
 ghost use Rattle.rows.specs.Search.{Found};
 ghost use Rattle.row_index.specs.Index.{heads, bucket_of, with_row, with_rows, RowsIndexed, Followed};
@@ -43,7 +42,7 @@ fn bucket_of(row: Words) -> usize
 fn follow(rows: &[u32], index: &[u16; LENGTH], m: u32, count: u32, row: Words) -> u32
     requires rows_indexed { RowsIndexed rows.now count index.now }
     requires count_in_bounds { row_width * count ≤ length rows.now }
-    ensures { Followed (old rows) m count row result }
+    ensures { Followed rows.now m count row result }
 {
     let mut n = index[bucket_of(row)] as u32;
     let mut left = STEPS;
@@ -64,7 +63,7 @@ fn follow(rows: &[u32], index: &[u16; LENGTH], m: u32, count: u32, row: Words) -
 pub fn find(rows: &[u32], index: &[u16; LENGTH], m: u32, count: u32, row: Words) -> u32
     requires rows_indexed { RowsIndexed rows.now count index.now }
     requires m_le_count { (m ≤ count) × (row_width * count ≤ length rows.now) × Distinct rows.now count }
-    ensures { Found (old rows) m count row result }
+    ensures { Found rows.now m count row result }
 {
     let n = follow(rows, index, m, count, row);
     if n != 0 {
@@ -84,7 +83,7 @@ pub fn find(rows: &[u32], index: &[u16; LENGTH], m: u32, count: u32, row: Words)
 pub fn find_twin(rows: &[u32], index: &[u16; LENGTH], m: u32, count: u32, row: Words) -> u32
     requires rows_indexed { RowsIndexed rows.now count index.now }
     requires m_le_count { (m ≤ count) × (row_width * count ≤ length rows.now) × Distinct rows.now count }
-    ensures { Found (old rows) m count row result }
+    ensures { Found rows.now m count row result }
 {
     let mut n = index[bucket_of(row)] as u32;
     let mut left = STEPS;
@@ -110,7 +109,7 @@ pub fn find_twin(rows: &[u32], index: &[u16; LENGTH], m: u32, count: u32, row: W
 // Row n, which has these words, comes into its bucket, if there is a place for it.
 pub fn link(index: &mut [u16; LENGTH], n: u32, row: Words)
     requires { 1 ≤ n }
-    ensures { final index ≡ with_row (old index) n row }
+    ensures { index.new ≡ with_row index.old n row }
 {
     if PLACES < n {
         return;
@@ -124,7 +123,7 @@ pub fn link(index: &mut [u16; LENGTH], n: u32, row: Words)
 // The first `count` rows come into their buckets, one after the other.
 pub fn link_all(rows: &[u32], count: u32, index: &mut [u16; LENGTH])
     requires { row_width * count ≤ length rows.now }
-    ensures { final index ≡ with_rows (old index) (old rows) 0 count }
+    ensures { index.new ≡ with_rows index.old rows.now 0 count }
 {
     let mut n = 0;
     while n < count {

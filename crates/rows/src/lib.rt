@@ -2,7 +2,6 @@
 #![tactic(auto)]
 
 ghost use Rattle.std.specs.Prelude.{◌≡◌, ◌+◌, ◌*◌, ◌≤◌, ◌<◌, length};
-ghost use Rattle.contract.specs.Moments.{old, final};
 ghost use Rattle.rows.specs.Row.{words, row_width, row_from, row_at, size_word_at, stored};
 ghost use Rattle.rows.specs.Search.{Decides, KeyOf, NoneWith, Skipped, NextWith, Found};
 
@@ -41,7 +40,7 @@ struct Key {
 // The first four words of row n.
 pub fn row_at(rows: &[u32], n: u32) -> Words
     requires { (1 ≤ n) × (row_width * n ≤ length rows.now) }
-    ensures { result ≡ row_at (old rows) n }
+    ensures { result ≡ row_at rows.now n }
 {
     row_from(rows, ROW_WIDTH * (n as usize) - ROW_WIDTH)
 }
@@ -49,7 +48,7 @@ pub fn row_at(rows: &[u32], n: u32) -> Words
 // Those of the row that begins at this place.
 pub fn row_from(rows: &[u32], place: usize) -> Words
     requires { place + row_width ≤ length rows.now }
-    ensures { result ≡ row_from (old rows) place }
+    ensures { result ≡ row_from rows.now place }
 {
     Words {
         kind: rows[place],
@@ -62,7 +61,7 @@ pub fn row_from(rows: &[u32], place: usize) -> Words
 // The fifth word of row n: its size.
 pub fn size_word_at(rows: &[u32], n: u32) -> u32
     requires { (1 ≤ n) × (row_width * n ≤ length rows.now) }
-    ensures { result ≡ size_word_at (old rows) n }
+    ensures { result ≡ size_word_at rows.now n }
 {
     rows[ROW_WIDTH * (n as usize) - ROW_WIDTH + 4]
 }
@@ -109,7 +108,7 @@ fn key_of(row: Words) -> Key
 // Whether none of the four rows past row n has the key.
 fn none_of_four(rows: &[u32], n: u32, key: Key) -> bool
     requires { (key.place < row_width) × (row_width * n + row_width * 4 ≤ length rows.now) }
-    ensures { Decides (NoneWith (old rows) key n (n + 4)) result }
+    ensures { Decides (NoneWith rows.now key n (n + 4)) result }
 {
     let at = ROW_WIDTH * (n as usize) + key.place;
     if rows[at] == key.word {
@@ -130,7 +129,7 @@ fn none_of_four(rows: &[u32], n: u32, key: Key) -> bool
 // Goes on from row m, four rows at a time, while none of them has the key.
 fn skip_rows(rows: &[u32], m: u32, count: u32, key: Key) -> u32
     requires { (key.place < row_width) × (m ≤ count) × (row_width * count ≤ length rows.now) }
-    ensures { Skipped (old rows) m count key result }
+    ensures { Skipped rows.now m count key result }
 {
     let mut n = m;
     while 4 <= count - n {
@@ -145,7 +144,7 @@ fn skip_rows(rows: &[u32], m: u32, count: u32, key: Key) -> u32
 // The first row past row m that has the key, or 0.
 fn next_with(rows: &[u32], m: u32, count: u32, key: Key) -> u32
     requires { (key.place < row_width) × (m ≤ count) × (row_width * count ≤ length rows.now) }
-    ensures { NextWith (old rows) m count key result }
+    ensures { NextWith rows.now m count key result }
 {
     let mut n = skip_rows(rows, m, count, key);
     while n < count {
@@ -161,7 +160,7 @@ fn next_with(rows: &[u32], m: u32, count: u32, key: Key) -> u32
 // The first row past row m that has these words, or 0.
 pub fn find(rows: &[u32], m: u32, count: u32, row: Words) -> u32
     requires { (m ≤ count) × (row_width * count ≤ length rows.now) }
-    ensures { Found (old rows) m count row result }
+    ensures { Found rows.now m count row result }
 {
     let key = key_of(row);
     let mut n = m;
@@ -180,7 +179,7 @@ pub fn find(rows: &[u32], m: u32, count: u32, row: Words) -> u32
 // Stores the row and its size behind the first `count` rows.
 pub fn store(rows: &mut [u32], count: u32, row: Words, size: u32)
     requires { row_width * count + row_width ≤ length rows.old }
-    ensures { final rows ≡ stored (old rows) count row size }
+    ensures { rows.new ≡ stored rows.old count row size }
 {
     let at = ROW_WIDTH * (count as usize);
     rows[at] = row.kind;

@@ -2,7 +2,6 @@
 #![tactic(auto)]
 
 ghost use Rattle.std.specs.Prelude.{◌≡◌, ◌-◌, ◌<◌, ◌≤◌, length};
-ghost use Rattle.contract.specs.Moments.{old, final};
 ghost use Rattle.shape.specs.Kinds as kinds;
 ghost use Rattle.shape.specs.Shape.{an_expression, a_statement};
 ghost use Rattle.shape.specs.declared.Holds.TheVariants.{Statements};
@@ -51,7 +50,7 @@ fn declare_local(
     state: State,
 ) -> Typed
     requires { (field_end at ≤ length s.now) × (word_place (word_at s.now (head_end at)) 2 < length work.old) }
-    ensures { LocalDeclared (old s) at ty (old work) (old errors) state (final work) (final errors) result }
+    ensures { LocalDeclared s.now at ty work.old errors.old state work.new errors.new result }
 {
     let name = word(s, at + HEAD_END);
     let earlier = walk::word_of(work, name, walk::LOCAL);
@@ -77,10 +76,10 @@ fn variable_declaration(
     state: State,
 ) -> State
     requires fine_node { FineNode s.now node a_statement × (kind_at s.now node.at ≡ kinds.variable_declaration) }
-    requires ready { Ready s.now (given work output errors rows index state) }
-    ensures { NodeCheckedForAny (old s) names node
-        (before work output errors rows index state)
-        (after work output errors rows index result) }
+    requires ready { Ready s.now (given work.old output errors rows index state) }
+    ensures { NodeCheckedForAny s.now names node
+        (before work.old output errors rows index state)
+        (after work.new output errors rows index result) }
 {
     let at = node.at + FIELD_END;
     let depth = node.depth - 1;
@@ -114,10 +113,10 @@ fn expression_statement(
     state: State,
 ) -> State
     requires fine_node { FineNode s.now node a_statement × (kind_at s.now node.at ≡ kinds.expression_statement) }
-    requires ready { Ready s.now (given work output errors rows index state) }
-    ensures { NodeCheckedForAny (old s) names node
-        (before work output errors rows index state)
-        (after work output errors rows index result) }
+    requires ready { Ready s.now (given work.now output errors rows index state) }
+    ensures { NodeCheckedForAny s.now names node
+        (before work.now output errors rows index state)
+        (after work.now output errors rows index result) }
 {
     let at = node.at + HEAD_END;
     let depth = node.depth - 1;
@@ -139,10 +138,10 @@ fn assignment(
     state: State,
 ) -> State
     requires fine_node { FineNode s.now node a_statement × (kind_at s.now node.at ≡ kinds.assignment) }
-    requires ready { Ready s.now (given work output errors rows index state) }
-    ensures { NodeCheckedForAny (old s) names node
-        (before work output errors rows index state)
-        (after work output errors rows index result) }
+    requires ready { Ready s.now (given work.now output errors rows index state) }
+    ensures { NodeCheckedForAny s.now names node
+        (before work.now output errors rows index state)
+        (after work.now output errors rows index result) }
 {
     let at = node.at + HEAD_END;
     let depth = node.depth - 1;
@@ -168,10 +167,10 @@ fn compound_assignment(
     state: State,
 ) -> State
     requires fine_node { FineNode s.now node a_statement × (kind_at s.now node.at ≡ kinds.compound_assignment) }
-    requires ready { Ready s.now (given work output errors rows index state) }
-    ensures { NodeCheckedForAny (old s) names node
-        (before work output errors rows index state)
-        (after work output errors rows index result) }
+    requires ready { Ready s.now (given work.now output errors rows index state) }
+    ensures { NodeCheckedForAny s.now names node
+        (before work.now output errors rows index state)
+        (after work.now output errors rows index result) }
 {
     let at = node.at + HEAD_END;
     let depth = node.depth - 1;
@@ -195,7 +194,7 @@ fn return_without_value(
     state: State,
 ) -> State
     requires { (head_end at ≤ length s.now) × OneType rows.now state.rows returned }
-    ensures { ReturnedNothing (old s) at returned (old rows) (old errors) state (final errors) result }
+    ensures { ReturnedNothing s.now at returned rows.now errors.old state errors.new result }
 {
     let kind = RETURN_NEEDS_VALUE;
     let holds = types::kind(rows, state.rows, returned) == types::VOID;
@@ -215,11 +214,11 @@ fn return_statement(
     state: State,
 ) -> State
     requires fine_node { FineNode s.now node a_statement × (kind_at s.now node.at ≡ kinds.return) }
-    requires ready { Ready s.now (given work output errors rows index state) }
+    requires ready { Ready s.now (given work.now output errors rows index state) }
     requires one_type { OneType rows.old state.rows function.returned }
-    ensures { NodeChecked (old s) function node
-        (before work output errors rows index state)
-        (after work output errors rows index result) }
+    ensures { NodeChecked s.now function node
+        (before work.now output errors rows index state)
+        (after work.now output errors rows index result) }
 {
     let names = function.names;
     let returned = function.returned;
@@ -246,10 +245,10 @@ fn condition(
     state: State,
 ) -> State
     requires fine_record { FineRecord s.now (node.depth - 1) (head_end node.at) (length s.now) an_expression }
-    requires ready { Ready s.now (given work output errors rows index state) }
-    ensures { ConditionChecked (old s) names node
-        (before work output errors rows index state)
-        (after work output errors rows index result) }
+    requires ready { Ready s.now (given work.now output errors rows index state) }
+    ensures { ConditionChecked s.now names node
+        (before work.now output errors rows index state)
+        (after work.now output errors rows index result) }
 {
     let at = node.at + HEAD_END;
     let depth = node.depth - 1;
@@ -271,11 +270,11 @@ fn own_parts(
     state: State,
 ) -> State
     requires fine_node { FineNode s.now (node_of inner) a_statement × InnerOf s.now (node_of inner) inner }
-    requires ready { Ready s.now (given work output errors rows index state) }
+    requires ready { Ready s.now (given work.old output errors rows index state) }
     requires one_type { OneType rows.old state.rows function.returned }
-    ensures { OwnPartsChecked (old s) function inner
-        (before work output errors rows index state)
-        (after work output errors rows index result) }
+    ensures { OwnPartsChecked s.now function inner
+        (before work.old output errors rows index state)
+        (after work.new output errors rows index result) }
 {
     let names = function.names;
     let at = inner.at;
@@ -313,11 +312,11 @@ pub fn type_check_statement(
     state: State,
 ) -> State
     requires fine_node { FineNode s.now node a_statement }
-    requires ready { Ready s.now (given work output errors rows index state) }
+    requires ready { Ready s.now (given work.old output errors rows index state) }
     requires one_type { OneType rows.old state.rows function.returned }
-    ensures { NodeChecked (old s) function node
-        (before work output errors rows index state)
-        (after work output errors rows index result) }
+    ensures { NodeChecked s.now function node
+        (before work.old output errors rows index state)
+        (after work.new output errors rows index result) }
 {
     let inner = inner_statements(s, node);
     let next = own_parts(s, function, work, inner, output, errors, rows, index, state);
@@ -342,11 +341,11 @@ fn type_check_block(
     state: State,
 ) -> State
     requires fine_nodes { FineNodes s.now list Statements }
-    requires ready { Ready s.now (given work output errors rows index state) }
+    requires ready { Ready s.now (given work.old output errors rows index state) }
     requires one_type { OneType rows.old state.rows function.returned }
-    ensures { NodesChecked (old s) function list
-        (before work output errors rows index state)
-        (after work output errors rows index result) }
+    ensures { NodesChecked s.now function list
+        (before work.old output errors rows index state)
+        (after work.new output errors rows index result) }
 {
     let end = list.end;
     let depth = list.depth;

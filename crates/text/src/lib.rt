@@ -2,7 +2,6 @@
 #![tactic(auto)]
 
 ghost use Rattle.std.specs.Prelude.{◌≡◌, length};
-ghost use Rattle.contract.specs.Moments.{old, final};
 ghost use Rattle.text.specs.Text.{decimal};
 ghost use Rattle.text.specs.Length.{capped};
 ghost use Rattle.text.specs.Written.{Fits, Written};
@@ -24,7 +23,7 @@ pub fn cap(length: u64) -> u32
 
 // How many bytes there are, counted no further than one past the longest.
 pub fn capped_length(bytes: &[u8]) -> u32
-    ensures { result ≡ capped (length (old bytes)) }
+    ensures { result ≡ capped (length bytes.now) }
 {
     cap(bytes.len() as u64)
 }
@@ -32,7 +31,7 @@ pub fn capped_length(bytes: &[u8]) -> u32
 // Copies bytes into a text, and returns the place behind them.
 pub fn put(text: &mut [u8], at: usize, bytes: &[u8]) -> usize
     requires { Fits bytes.now text.old at }
-    ensures { Written (old bytes) (old text) (final text) at result }
+    ensures { Written bytes.now text.old text.new at result }
 {
     let mut i: usize = 0;
     while i < bytes.len() {
@@ -59,7 +58,7 @@ pub fn decimal_length(n: u32) -> u32
 // Writes a number in decimal, its last digit first, and returns the place behind it.
 pub fn put_decimal(text: &mut [u8], at: usize, n: u32) -> usize
     requires { Fits (decimal n) text.old at }
-    ensures { Written (decimal n) (old text) (final text) at result }
+    ensures { Written (decimal n) text.old text.new at result }
 {
     let end = at + (decimal_length(n) as usize);
     let mut rest = n;

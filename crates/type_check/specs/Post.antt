@@ -1,7 +1,7 @@
 -- What the functions of the entry promise; the entry's own promise is `Checked` (crate meaning).
 use Rattle.std.specs.Prelude.{ℕ, ◌*◌, ◌≤◌, ◌≡◌, false, ◌||◌, List, [], ◌∷◌, ltb, length, drop}
 use Rattle.std.proofs.Math.Option.{Option}
-use Rattle.std.specs.Borrow.{Bor}
+use Rattle.std.specs.Borrow.{MutBor}
 use denote.Triple.Both.{Both}
 use Rattle.contract.specs.Moments.{old, final}
 use Rattle.types.specs.Table.{row_width}
@@ -23,11 +23,11 @@ abbrev pub buffers : (output rows errors work : List ℕ) → Buffers
 buffers output rows errors work = record { output = output; rows = rows; errors = errors; work = work }
 
 -- in an `ensures`, at entry
-abbrev pub buffers_before : (output rows errors work : Both (Bor (List ℕ)) (Bor (List ℕ))) → Buffers
+abbrev pub buffers_before : (output rows errors work : Both (MutBor (List ℕ)) (MutBor (List ℕ))) → Buffers
 buffers_before output rows errors work = buffers (old output) (old rows) (old errors) (old work)
 
 -- and at exit
-abbrev pub buffers_after : (output rows errors work : Both (Bor (List ℕ)) (Bor (List ℕ))) → Buffers
+abbrev pub buffers_after : (output rows errors work : Both (MutBor (List ℕ)) (MutBor (List ℕ))) → Buffers
 buffers_after output rows errors work = buffers (final output) (final rows) (final errors) (final work)
 
 -- The number of the refusal and its place, or the counts, of each case of the answer

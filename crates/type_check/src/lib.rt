@@ -3,7 +3,6 @@
 #![tactic(auto)]
 
 ghost use Rattle.std.specs.Prelude.{◌≡◌, true, false, ◌≤◌, ◌*◌, ◌++◌, length, replicate, drop};
-ghost use Rattle.contract.specs.Moments.{old, final};
 ghost use Rattle.names.specs.Names.{name_count};
 ghost use Rattle.module_tests.specs.Refusal.{refusal_of};
 ghost use Rattle.meaning.specs.Promise.{Checked, cleared, work_width};
@@ -31,7 +30,7 @@ const ITEM_DEPTH: usize = 63;
 
 // Test 5: the output is shorter than the input, or there are too few working words.
 fn loan_refusal(input: &[u8], output: usize, work: usize) -> Refusal
-    ensures { refusal_of result ≡ loan_refusal (old input) output work }
+    ensures { refusal_of result ≡ loan_refusal input.now output work }
 {
     let names = name_count(input);
     if output < input.len() {
@@ -51,7 +50,7 @@ fn loan_refusal(input: &[u8], output: usize, work: usize) -> Refusal
 
 // Tests 1 to 5: why the module is turned back before anything is written.
 fn early_refusal(input: &[u8], output: usize, work: usize) -> Refusal
-    ensures { refusal_of result ≡ early_refusal (old input) output work }
+    ensures { refusal_of result ≡ early_refusal input.now output work }
 {
     let refusal = module_refusal(input);
     match refusal {
@@ -63,7 +62,7 @@ fn early_refusal(input: &[u8], output: usize, work: usize) -> Refusal
 // Sets the first `count` words to 0.
 fn clear_words(words: &mut [u32], count: usize)
     requires { count ≤ length words.old }
-    ensures { final words ≡ cleared count (old words) }
+    ensures { words.new ≡ cleared count words.old }
 {
     let mut i: usize = 0;
     while i < count {
@@ -75,7 +74,7 @@ fn clear_words(words: &mut [u32], count: usize)
 // Sets the first `count` bytes to 0.
 fn clear_bytes(bytes: &mut [u8], count: usize)
     requires { count ≤ length bytes.old }
-    ensures { final bytes ≡ cleared count (old bytes) }
+    ensures { bytes.new ≡ cleared count bytes.old }
 {
     let mut i: usize = 0;
     while i < count {
@@ -87,7 +86,7 @@ fn clear_bytes(bytes: &mut [u8], count: usize)
 // The output begins as a copy of the input.
 fn copy_bytes(input: &[u8], output: &mut [u8])
     requires { length input.now ≤ length output.old }
-    ensures { final output ≡ old input ++ drop (length (old input)) (old output) }
+    ensures { output.new ≡ input.now ++ drop (length input.now) output.old }
 {
     let mut i: usize = 0;
     while i < input.len() {
@@ -107,7 +106,7 @@ fn both_passes(
     requires passed { Passed input.now (length output.old) (length work.old) }
     requires output_value { output.old ≡ input.now ++ drop (length input.now) output.old }
     requires work_value { work.old ≡ replicate (work_width * name_count input.now) 0 }
-    ensures { BothPasses (old input)
+    ensures { BothPasses input.now
         (buffers_before output rows errors work)
         (buffers_after output rows errors work) result }
 {
@@ -140,9 +139,9 @@ fn both_passes(
 // Refusals 6 and 7 leave zeros.
 fn wipe(count: usize, output: &mut [u8], rows: &mut [u32], errors: &mut [u32])
     requires { count ≤ length output.old }
-    ensures output_value { final output ≡ cleared count (old output) }
-    ensures rows_value { final rows ≡ cleared (length (old rows)) (old rows) }
-    ensures errors_value { final errors ≡ cleared (length (old errors)) (old errors) }
+    ensures output_value { output.new ≡ cleared count output.old }
+    ensures rows_value { rows.new ≡ cleared (length rows.old) rows.old }
+    ensures errors_value { errors.new ≡ cleared (length errors.old) errors.old }
 {
     clear_bytes(output, count);
     let row_words = rows.len();
@@ -161,7 +160,7 @@ fn run(
 ) -> Answer
     requires passed { Passed input.now (length output.old) (length work.old) }
     requires work_len { length work.old ≡ work_width * name_count input.now }
-    ensures { Ends (old input)
+    ensures { Ends input.now
         (buffers_before output rows errors work)
         (buffers_after output rows errors work) (outcome_of result) }
 {
@@ -200,7 +199,7 @@ pub fn type_check_module(
     errors: &mut [u32],
     work: &mut [u32],
 ) -> Answer
-    ensures { Checked (old input)
+    ensures { Checked input.now
         (buffers_before output rows errors work)
         (buffers_after output rows errors work) (outcome_of result) }
 {

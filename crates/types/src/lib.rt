@@ -3,7 +3,6 @@
 #![tactic(auto)]
 
 ghost use Rattle.std.specs.Prelude.{◌≡◌, ◌+◌, ◌*◌, ◌≤◌, ◌<◌, length};
-ghost use Rattle.contract.specs.Moments.{old, final};
 ghost use Rattle.row_index.specs.Index.{RowsIndexed, with_rows};
 ghost use Rattle.types.specs.Ty.{kind_of, first_of, second_of, size_of, name_of, desugar as desugared, remove_aliasing, strip_to};
 ghost use Rattle.types.specs.Ty.{cell_count, field_named, array_kind, struct_kind, function_kind, field_kind};
@@ -126,7 +125,7 @@ pub enum Interned {
 // The kind of row n.
 pub fn kind(rows: &[u32], count: u32, n: u32) -> u32
     requires { Table rows.now count × (1 ≤ n) × (n ≤ count) }
-    ensures { result ≡ kind_of (unfolded (old rows) n) }
+    ensures { result ≡ kind_of (unfolded rows.now n) }
 {
     let row = row_at(rows, n);
     row.kind
@@ -135,7 +134,7 @@ pub fn kind(rows: &[u32], count: u32, n: u32) -> u32
 // The name of row n, or 0.
 pub fn name(rows: &[u32], count: u32, n: u32) -> u32
     requires { Table rows.now count × (1 ≤ n) × (n ≤ count) }
-    ensures { result ≡ name_of (unfolded (old rows) n) }
+    ensures { result ≡ name_of (unfolded rows.now n) }
 {
     let row = row_at(rows, n);
     row.name
@@ -144,7 +143,7 @@ pub fn name(rows: &[u32], count: u32, n: u32) -> u32
 // The size of row n: how many words its type has, or a word that stands for no number.
 pub fn words(rows: &[u32], count: u32, n: u32) -> u32
     requires { Table rows.now count × (1 ≤ n) × (n ≤ count) }
-    ensures { result ≡ size_word (unfolded (old rows) n) }
+    ensures { result ≡ size_word (unfolded rows.now n) }
 {
     size_word_at(rows, n)
 }
@@ -152,7 +151,7 @@ pub fn words(rows: &[u32], count: u32, n: u32) -> u32
 // The size of an array.
 pub fn size(rows: &[u32], count: u32, n: u32) -> u32
     requires { Table rows.now count × (1 ≤ n) × (n ≤ count) × (kind_of (unfolded rows.now n) ≡ array_kind) }
-    ensures { result ≡ size_of (unfolded (old rows) n) }
+    ensures { result ≡ size_of (unfolded rows.now n) }
 {
     let array = row_at(rows, n);
     array.second
@@ -161,7 +160,7 @@ pub fn size(rows: &[u32], count: u32, n: u32) -> u32
 // The type in row n: a pointee, an element, a returned type, an alias' type, a field's or an argument's.
 pub fn part(rows: &[u32], count: u32, n: u32) -> u32
     requires { Table rows.now count × (1 ≤ n) × (n ≤ count) × HasTypePart (unfolded rows.now n) }
-    ensures { TypePart (old rows) count n (first_of (unfolded (old rows) n)) result }
+    ensures { TypePart rows.now count n (first_of (unfolded rows.now n)) result }
 {
     let holder = row_at(rows, n);
     holder.first
@@ -170,7 +169,7 @@ pub fn part(rows: &[u32], count: u32, n: u32) -> u32
 // The first field cell of a struct, or 0.
 pub fn fields(rows: &[u32], count: u32, n: u32) -> u32
     requires { Table rows.now count × (1 ≤ n) × (n ≤ count) × (kind_of (unfolded rows.now n) ≡ struct_kind) }
-    ensures { CellPart (old rows) count n field_kind (first_of (unfolded (old rows) n)) result }
+    ensures { CellPart rows.now count n field_kind (first_of (unfolded rows.now n)) result }
 {
     let structure = row_at(rows, n);
     structure.first
@@ -179,7 +178,7 @@ pub fn fields(rows: &[u32], count: u32, n: u32) -> u32
 // The first argument cell of a function, or 0.
 pub fn arguments(rows: &[u32], count: u32, n: u32) -> u32
     requires { Table rows.now count × (1 ≤ n) × (n ≤ count) × (kind_of (unfolded rows.now n) ≡ function_kind) }
-    ensures { CellPart (old rows) count n argument_kind (second_of (unfolded (old rows) n)) result }
+    ensures { CellPart rows.now count n argument_kind (second_of (unfolded rows.now n)) result }
 {
     let function = row_at(rows, n);
     function.second
@@ -188,8 +187,8 @@ pub fn arguments(rows: &[u32], count: u32, n: u32) -> u32
 // The cell after the cell n, or 0.
 pub fn rest(rows: &[u32], count: u32, n: u32) -> u32
     requires { Table rows.now count × (1 ≤ n) × (n ≤ count) × (field_kind ≤ kind_of (unfolded rows.now n)) }
-    ensures { CellPart (old rows) count n
-        (kind_of (unfolded (old rows) n)) (second_of (unfolded (old rows) n)) result }
+    ensures { CellPart rows.now count n
+        (kind_of (unfolded rows.now n)) (second_of (unfolded rows.now n)) result }
 {
     let cell = row_at(rows, n);
     cell.second
@@ -201,7 +200,7 @@ pub fn rest(rows: &[u32], count: u32, n: u32) -> u32
 // The type of the first field of that name in a struct, or 0.
 pub fn field_named(rows: &[u32], count: u32, n: u32, name: u32) -> u32
     requires { Table rows.now count × (1 ≤ n) × (n ≤ count) × (kind_of (unfolded rows.now n) ≡ struct_kind) }
-    ensures { FoundType (old rows) count (field_named name (first_of (unfolded (old rows) n))) result }
+    ensures { FoundType rows.now count (field_named name (first_of (unfolded rows.now n))) result }
 {
     let mut cell = fields(rows, count, n);
     while cell != 0 {
@@ -228,7 +227,7 @@ pub fn field_named(rows: &[u32], count: u32, n: u32, name: u32) -> u32
 // How many cells the list has.
 pub fn cell_count(rows: &[u32], count: u32, cell: u32) -> u32
     requires { Table rows.now count × IsList rows.now count cell }
-    ensures { result ≡ cell_count (unfolded (old rows) cell) }
+    ensures { result ≡ cell_count (unfolded rows.now cell) }
 {
     let mut at = cell;
     let mut cells: u32 = 0;
@@ -254,7 +253,7 @@ pub fn cell_count(rows: &[u32], count: u32, cell: u32) -> u32
 // Row n with its transparent aliases stripped at the top.
 pub fn desugar(rows: &[u32], count: u32, n: u32) -> u32
     requires { Table rows.now count × IsType rows.now count n }
-    ensures { TypePart (old rows) count (n + 1) (desugared (unfolded (old rows) n)) result }
+    ensures { TypePart rows.now count (n + 1) (desugared (unfolded rows.now n)) result }
 {
     let mut at = n;
     loop {
@@ -277,7 +276,7 @@ pub fn desugar(rows: &[u32], count: u32, n: u32) -> u32
 // Row n with its aliases of both sorts stripped at the top.
 pub fn remove_aliasing(rows: &[u32], count: u32, n: u32) -> u32
     requires { Table rows.now count × IsType rows.now count n }
-    ensures { TypePart (old rows) count (n + 1) (remove_aliasing (unfolded (old rows) n)) result }
+    ensures { TypePart rows.now count (n + 1) (remove_aliasing (unfolded rows.now n)) result }
 {
     let mut at = n;
     loop {
@@ -300,7 +299,7 @@ pub fn remove_aliasing(rows: &[u32], count: u32, n: u32) -> u32
 // Row n with its distinct aliases stripped at the top, as far as the row that is wanted.
 pub fn strip_to(rows: &[u32], count: u32, n: u32, wanted: u32) -> u32
     requires { Table rows.now count × IsType rows.now count n × (wanted ≤ count) }
-    ensures { TypePart (old rows) count (n + 1) (strip_to (unfolded (old rows) wanted) (unfolded (old rows) n)) result }
+    ensures { TypePart rows.now count (n + 1) (strip_to (unfolded rows.now wanted) (unfolded rows.now n)) result }
 {
     let mut at = n;
     loop {
@@ -358,7 +357,7 @@ pub fn highest_part(row: Words) -> u32
 // The size of a part: the fifth word of that row, or 0 for the number 0.
 fn part_word(rows: &[u32], part: u32) -> u32
     requires { row_width * part ≤ length rows.now }
-    ensures { result ≡ part_word (old rows) part }
+    ensures { result ≡ part_word rows.now part }
 {
     if part < 1 {
         return 0;
@@ -369,7 +368,7 @@ fn part_word(rows: &[u32], part: u32) -> u32
 // The size of a row that may stand behind the rows 1 to m, from the sizes of its parts.
 pub fn size_word(rows: &[u32], m: u32, row: Words) -> u32
     requires { RowOk rows.now m row × Sizes rows.now m × (row_width * m ≤ length rows.now) }
-    ensures { result ≡ size_word (build row (unfolded (old rows))) }
+    ensures { result ≡ size_word (build row (unfolded rows.now)) }
 {
     let kind = row.kind;
     if kind < VOID {
@@ -411,8 +410,8 @@ pub fn intern(
 ) -> Interned
     requires table { Table rows.old count × PartsOk rows.old count row }
     requires rows_indexed { RowsIndexed rows.old count index.old }
-    ensures intern_post { InternPost (old rows) count row (final rows) result }
-    ensures index_value { final index ≡ with_rows (old index) (final rows) count (count_after count result) }
+    ensures intern_post { InternPost rows.old count row rows.new result }
+    ensures index_value { index.new ≡ with_rows index.old rows.new count (count_after count result) }
 {
     let wanted = words_of(row);
     let below = highest_part(wanted);
@@ -438,7 +437,7 @@ pub fn intern(
 // Stores the fixed rows.
 pub fn put_fixed_rows(rows: &mut [u32])
     requires { fixed_length ≤ length rows.old }
-    ensures { FixedStored (old rows) (final rows) }
+    ensures { FixedStored rows.old rows.new }
 {
     let fixed = FIXED_WORDS;
     let mut i = 0;

@@ -2,7 +2,6 @@
 #![tactic(auto)]
 
 ghost use Rattle.std.specs.Prelude.{◌≡◌, ◌+◌, ◌*◌, ◌^◌, ◌≤◌, ◌<◌, length};
-ghost use Rattle.contract.specs.Moments.{old};
 ghost use Rattle.rows.specs.Row.{row_width, size_word_at};
 ghost use Rattle.rows.specs.Search.{Decides};
 ghost use Rattle.types.specs.WordSize.{size_word};
@@ -18,7 +17,7 @@ use types::{
 // Whether v is a type row among the rows 1 to m.
 pub fn is_type(rows: &[u32], m: u32, v: u32) -> bool
     requires { row_width * m ≤ length rows.now }
-    ensures { Decides (IsType (old rows) m v) result }
+    ensures { Decides (IsType rows.now m v) result }
 {
     if v < 1 {
         return false;
@@ -33,7 +32,7 @@ pub fn is_type(rows: &[u32], m: u32, v: u32) -> bool
 // Whether v is 0, or a cell of that kind among the rows 1 to m.
 fn is_cell(rows: &[u32], m: u32, kind: u32, v: u32) -> bool
     requires { row_width * m ≤ length rows.now }
-    ensures { Decides (IsCell (old rows) m kind v) result }
+    ensures { Decides (IsCell rows.now m kind v) result }
 {
     if v < 1 {
         return true;
@@ -73,7 +72,7 @@ fn second_part(kind: u32) -> PartKind
 // Whether v may stand where that part is due, behind the rows 1 to m.
 fn is_part(rows: &[u32], m: u32, part: PartKind, v: u32) -> bool
     requires { row_width * m ≤ length rows.now }
-    ensures { Decides (PartOk (old rows) m part v) result }
+    ensures { Decides (PartOk rows.now m part v) result }
 {
     match part {
         PartKind::Unused => v == 0,
@@ -106,7 +105,7 @@ fn is_name(n: u32, kind: u32, name: u32) -> bool
 // Whether the row may stand behind the rows 1 to m.
 fn is_row(rows: &[u32], m: u32, row: Words) -> bool
     requires { (row_width * m ≤ length rows.now) × (m + 1 < 2 ^ 32) }
-    ensures { Decides (RowOk (old rows) m row) result }
+    ensures { Decides (RowOk rows.now m row) result }
 {
     if row.kind < UNKNOWN {
         return false;
@@ -127,7 +126,7 @@ fn is_row(rows: &[u32], m: u32, row: Words) -> bool
 fn has_size(rows: &[u32], m: u32, row: Words) -> bool
     requires row_ok { RowOk rows.now m row × Sizes rows.now m × (row_width * m + row_width ≤ length rows.now) }
     requires m_bound { m + 1 < 2 ^ 32 }
-    ensures { Decides (size_word_at (old rows) (m + 1) ≡ size_word (build row (unfolded (old rows)))) result }
+    ensures { Decides (size_word_at rows.now (m + 1) ≡ size_word (build row (unfolded rows.now))) result }
 {
     let size = size_word(rows, m, row);
     size_word_at(rows, m + 1) == size
@@ -136,7 +135,7 @@ fn has_size(rows: &[u32], m: u32, row: Words) -> bool
 // Whether the table begins with the fixed rows.
 fn has_fixed_rows(rows: &[u32]) -> bool
     requires { fixed_length ≤ length rows.now }
-    ensures { Decides (FixedRows (old rows)) result }
+    ensures { Decides (FixedRows rows.now) result }
 {
     let fixed = FIXED_WORDS;
     let mut i = 0;
@@ -151,7 +150,7 @@ fn has_fixed_rows(rows: &[u32]) -> bool
 
 // Whether the first `count` rows obey the rules.
 pub fn is_table(rows: &[u32], count: u32) -> bool
-    ensures { Decides (Table (old rows) count) result }
+    ensures { Decides (Table rows.now count) result }
 {
     if count < FIXED_COUNT {
         return false;

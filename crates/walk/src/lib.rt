@@ -2,7 +2,6 @@
 #![tactic(auto)]
 
 ghost use Rattle.std.specs.Prelude.{◌≡◌, ◌+◌, ◌*◌, ◌<◌, ◌≤◌, length, get_or, set};
-ghost use Rattle.contract.specs.Moments.{old, final};
 ghost use Rattle.walk.specs.Words.{slot_stored, word_place, slot_end};
 ghost use Rattle.row_index.specs.Index.{Indexed};
 ghost use Rattle.types.specs.Table.{Table};
@@ -62,7 +61,7 @@ fn substitute(row: Row) -> u32
 pub fn make(rows: &mut [u32], index: &mut [u16; row_index::LENGTH], state: State, row: Row) -> Typed
     requires table { Table rows.old state.rows × PartsOk rows.old state.rows row }
     requires indexed { Indexed rows.old state.rows index.old }
-    ensures { Makes row (old rows) (old index) state (final rows) (final index) result }
+    ensures { Makes row rows.old index.old state rows.new index.new result }
 {
     let made = types::intern(rows, index, state.rows, row);
     match made {
@@ -88,7 +87,7 @@ pub fn make(rows: &mut [u32], index: &mut [u16; row_index::LENGTH], state: State
 // Stores a row number in the slot of the record at `at`.
 pub fn put_slot(output: &mut [u8], at: usize, ty: u32)
     requires { slot_end at ≤ length output.old }
-    ensures { final output ≡ slot_stored (old output) at ty }
+    ensures { output.new ≡ slot_stored output.old at ty }
 {
     let slot = at + HEAD_END;
     output[slot] = (ty % 256) as u8;
@@ -99,7 +98,7 @@ pub fn put_slot(output: &mut [u8], at: usize, ty: u32)
 
 // Reports an error.
 pub fn report(errors: &mut [u32], state: State, error: fallible::Error) -> State
-    ensures { Reported (old errors) state error (final errors) result }
+    ensures { Reported errors.old state error errors.new result }
 {
     let count = fallible::push_error(errors, state.errors, error);
     State {
@@ -112,7 +111,7 @@ pub fn report(errors: &mut [u32], state: State, error: fallible::Error) -> State
 // The working word of a name.
 pub fn word_of(work: &[u32], name: u32, which: usize) -> u32
     requires { word_place name which < length work.now }
-    ensures { result ≡ get_or (old work) (word_place name which) 0 }
+    ensures { result ≡ get_or work.now (word_place name which) 0 }
 {
     let place = WORK_WIDTH * (name as usize) + which;
     work[place]
@@ -121,7 +120,7 @@ pub fn word_of(work: &[u32], name: u32, which: usize) -> u32
 // Sets the working word of a name.
 pub fn set_word(work: &mut [u32], name: u32, which: usize, row: u32)
     requires { word_place name which < length work.old }
-    ensures { final work ≡ set (old work) (word_place name which) row }
+    ensures { work.new ≡ set work.old (word_place name which) row }
 {
     work[WORK_WIDTH * (name as usize) + which] = row;
 }

@@ -1,0 +1,11 @@
+use Rattle.shape.specs.Shape.{state_after}
+use borrow.Author.Tests.{eq-eqb, ne_eqb}
+use Rattle.shape.proofs.state_after.Goals as goal
+
+pub returns-then-class-due : goal.returns-then-class-due
+unfolding state_after
+returns-then-class-due c = simp (eq-eqb _ _ c.if-class-due.true)
+
+pub returns : goal.returns
+unfolding state_after
+returns c = simp (ne_eqb _ _ c.if-class-due.false)
