@@ -1,11 +1,11 @@
 -- Calls, a law for each exit. Assumes nothing.
-use Prim.Native.Nat.{ℕ, ◌+◌}
+use Prim.Native.Nat.{ℕ}
 use mathlib.Core.Path.{◌≡◌, refl, sym, ap, ◌∙◌, subst}
 use mathlib.Core.Bool.{Bool, true, false}
 use mathlib.Core.List.{List, [], ◌∷◌, ◌++◌}
 use lib.Dec.{eqb}
 use borrow.Author.Tests.{eq-eqb, ne_eqb}
-use Rattle.types.specs.Ty.{Ty, is, kind_of, second_of, cell_count, function_kind}
+use Rattle.types.specs.Ty.{Ty, kind_of, second_of, cell_count, function_kind}
 use Rattle.types.specs.Table.{unfolded, Table, IsCell}
 use Rattle.types.specs.Post.{TypePart, CellPart}
 use Rattle.relations.specs.TypeRows.{OneType}

@@ -3,7 +3,6 @@ use Rattle.std.specs.Prelude.{ℕ, ◌+◌, ◌*◌, ◌≤◌, ◌<◌, ◌≡�
 use Rattle.std.proofs.Math.Option.{some}
 use Rattle.std.specs.Borrow.{MutBor}
 use denote.Triple.Both.{Both}
-use Rattle.contract.specs.Moments.{old}
 use Rattle.types.specs.Table.{row_width, unfolded}
 use Rattle.fallible.specs.Outcome.{Outcome, refused, accepted, first_refusing}
 use Rattle.fallible.specs.Errors.{error_width}

@@ -1,6 +1,6 @@
 -- The reference's descriptions of errors, one a kind (document 02, paper 1). In a description a capital letter stands for what is printed
 -- in its place, every other byte for itself.
-use Rattle.std.specs.Prelude.{ℕ, ◌+◌, ◌≤◌, ◌<◌, ◌≡◌, cond, List, [], ◌∷◌, ◌++◌, map, length, get_or, take, drop, eqb}
+use Rattle.std.specs.Prelude.{ℕ, ◌≤◌, ◌≡◌, cond, List, [], ◌∷◌, ◌++◌, map, length, get_or, take, drop, eqb}
 use Prim.Native.Char.{Char, code}
 use Prim.Native.String.{String}
 use Rattle.text.specs.Text.{ascii}

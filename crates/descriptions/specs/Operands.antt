@@ -1,5 +1,5 @@
 -- The descriptions and the table of kinds (crate `fallible`) agree on what an error's operands are.
-use Rattle.std.specs.Prelude.{ℕ, ◌+◌, ◌<◌, ◌≡◌, cond, List, [], ◌∷◌, ◌++◌, length, eqb}
+use Rattle.std.specs.Prelude.{ℕ, ◌<◌, ◌≡◌, cond, List, [], ◌∷◌, ◌++◌, length, eqb}
 use Rattle.fallible.specs.Operands.{OperandSort, name_operand, type_operand, number_operand, operator_operand, unused, mismatch_kind, literal_kind, operand_sort}
 use Rattle.descriptions.specs.Descriptions.{descriptions, line_of, piece_of, word_of, first_operand, second_operand, third_operand, literal_place}
 use Rattle.descriptions.specs.declared.Piece.{Piece}

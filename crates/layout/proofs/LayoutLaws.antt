@@ -2,10 +2,8 @@
 use Prim.Native.Nat.{ℕ, suc, ◌+◌, ◌-◌, ◌*◌, ◌≤◌, ◌<◌}
 use mathlib.Core.Path.{◌≡◌, refl, sym, ◌∙◌, ap}
 use mathlib.Core.Bool.{Bool, true, false, not, ◌&&◌}
-use mathlib.Core.List.{List, [], ◌∷◌}
+use mathlib.Core.List.{List}
 use mathlib.Core.Option.{none}
-use types.Run.{OneOf, miss}
-use denote.Enum.Declared.{tag_of}
 use lib.ListN.{length}
 use lib.Dec.{leb}
 use native.Mathlib.Omega.{arith}
@@ -20,7 +18,6 @@ use Rattle.record_bytes.specs.Bytes.{half_at, word_at, head_size}
 use Rattle.names.specs.Names.{name_count}
 use Rattle.layout.specs.Layout.{max_bytes, max_depth, shape_at, start_at, stop_at, is_whole, is_bad, head_at, answer_if, and_then, after_head, list_step, list_at, record_at, layout_of, layout_refusal, layout_tests, LayoutOfList}
 use Rattle.layout.specs.declared.Layout.{Layout}
-use Rattle.layout.specs.contracts.Layout.{the_type}
 use Rattle.layout.specs.declared.Layout.TheVariants.{Good, TooLong, Fault, TooDeep}
 use Rattle.layout.specs.declared.Head.{Head}
 use Rattle.layout.specs.declared.Head.TheVariants.{Body, Wrong}
@@ -137,11 +134,11 @@ unfolding record_at
 record_deep n s d at end due p = ap (λ (m : ℕ). record_at n s m at end due) (zeroed d p)
 
 -- an answer that is not Good is the answer of the whole
-pub stays : (r : Layout) → OneOf (1 ∷ 2 ∷ 3 ∷ []) (tag_of the_type r) → (f : Unit {0} → Layout) → r ≡ and_then r f
-stays Good o f = absurd (miss (1 ∷ 2 ∷ 3 ∷ []) 0 tt o)
-stays TooLong o f = refl
-stays (Fault p) o f = refl
-stays (TooDeep p) o f = refl
+pub stays : (r : Layout) → (r ≡ Good → ⊥) → (f : Unit {0} → Layout) → r ≡ and_then r f
+stays Good n f = absurd (n refl)
+stays TooLong n f = refl
+stays (Fault p) n f = refl
+stays (TooDeep p) n f = refl
 
 -- What is left of a list has the layout of the whole: so far there is no fault
 pub record Rest (f : ℕ → ℕ → Due → Layout) (s : List ℕ) (end at : ℕ) (st : Holds) (whole : Layout) : Type 0 where

@@ -1,6 +1,5 @@
 -- What test 4 is decided by: an index of the names.
 use Rattle.std.specs.Prelude.{ℕ, ◌+◌, ◌≤◌, ◌<◌, ◌*◌, ◌/◌, ◌%◌, ◌≡◌, Bool, List, [], ◌∷◌, map, length, get_or}
-use Rattle.std.proofs.Math.Option.{some}
 use Rattle.record_bytes.specs.Bytes.{word_at, head_size}
 use Rattle.names.specs.Names.{name_bytes, is_among}
 

@@ -7,10 +7,10 @@ use mathlib.Core.List.{List, [], ◌∷◌, ◌++◌, map, map-append}
 use mathlib.Core.Option.{Option, none, some}
 use lib.Dec.{leb}
 use Rattle.types.specs.Ty.{Ty, end, node, bool, function, argument, desugar, first_of}
-use Rattle.trees.specs.Tree.{Location, location, TypeNode, Expression, CompoundField, Compound, array_compound, struct_compound, InitialValue, no_value, assigned, compounded}
+use Rattle.trees.specs.Tree.{Location, TypeNode, Expression, CompoundField, Compound, array_compound, struct_compound, InitialValue, no_value, assigned, compounded}
 use Rattle.trees.specs.Tree.{Statement, block, expression, variable_declaration, assignment, compound_assignment, return, loop, while, break, «if», if_else, inline_assembly, no_statements, statement_then}
 use Rattle.trees.specs.Tree.{Parameter, Item, function_definition, type_alias, global_declaration, other_item}
-use Rattle.meaning.specs.TypeError.{unless, field_twice, move_place}
+use Rattle.meaning.specs.TypeError.{unless, not_assignable, field_twice, move_place}
 use Rattle.meaning.specs.Context.{TypeMap, ModuleContext, Context, context, blank, entry, each}
 use Rattle.meaning.specs.Convert.{Slot, convert_node_type, conversion_slots}
 use Rattle.meaning.specs.Expression.{expression_type, expression_errors, expression_slots, check_assignable, field_type}
@@ -18,7 +18,7 @@ use Rattle.meaning.specs.Compound.{element_errors, field_fits, struct_errors, oc
 use Rattle.meaning.specs.Statement.{declare_local, context_after, return_errors, return_slots, statement_errors, statement_slots}
 use Rattle.meaning.specs.Divergence.{find_break, do_all_paths_diverge}
 use Rattle.meaning.specs.Module.{parameter_entry, parameter_errors, parameter_slots, parameter_types, argument_cells, alias_errors, is_taken, alias_entries, global_entries, declaration_errors, slot_type, declared_types, function_context, body_errors, body_slots, item_errors, item_slots}
-use Rattle.slot_places.proofs.Move.{placeless, move_slot, either_errors, conversion_places, Keeps}
+use Rattle.slot_places.proofs.Move.{placeless, move_slot, either_errors, unless_then, conversion_places, Keeps}
 
 abbrev pub change_field : (Expression → Expression) → CompoundField → CompoundField
 change_field e f = record { location = placeless f.location; name = f.name; value = e f.value }
@@ -82,7 +82,7 @@ module _ (g : ℕ → ℕ) where
   element_errors_lem : (l : Location) (element cells : Ty) → element_errors (placeless l) element cells ≡ map (move_place g) (element_errors l element cells)
   unfolding element_errors
   element_errors_lem l element end = refl
-  element_errors_lem l element (node k t rest s n) = rw (element_errors_lem l element rest) (simp (either_errors, map-append))
+  element_errors_lem l element (node k t rest s n) = unless_then (move_place g) _ (not_assignable l element t) _ _ (element_errors_lem l element rest)
 
   field_fits_lem : (l : Location) (name : ℕ) (field : Option Ty) (value : Ty) → field_fits (placeless l) name field value ≡ map (move_place g) (field_fits l name field value)
   field_fits_lem l name none value = refl

@@ -6,11 +6,11 @@ use mathlib.Core.Path.{◌≡◌, refl, sym, ◌∙◌, ap, ap₂}
 use mathlib.Core.Bool.{Bool, true, false, cond}
 use mathlib.Core.List.{List, [], ◌∷◌, ◌++◌, map, map-append, map-id}
 use lib.Dec.{eqb}
-use Rattle.types.specs.Ty.{Ty, end, node, pointer, array, struct, field, is, second_of, u16_kind}
+use Rattle.types.specs.Ty.{Ty, end, node, pointer, array, struct, field, is, first_of, second_of, u16_kind}
 use Rattle.trees.specs.Tree.{Location, location, TypeNode, name_type, void_type, pointer_type, array_type, struct_type, no_fields, field_then}
 use Rattle.trees.specs.Tree.{Expression, identifier, integer, boolean, string_literal, call, index, cast, pointer_take, pointer_dereference, field_access, bitwise_not, boolean_not, boolean_and, arithmetic_bin_op, comparison_bin_op, sizeof, no_expressions, expression_then}
 use Rattle.fallible.specs.Operands.{literal_kind}
-use Rattle.meaning.specs.TypeError.{TypeError, unless, invalid_index, move_place}
+use Rattle.meaning.specs.TypeError.{TypeError, unless, invalid_argument, invalid_index, move_place}
 use Rattle.meaning.specs.Context.{ModuleContext, Context}
 use Rattle.meaning.specs.Convert.{Slot, convert_node_type, conversion_errors, conversion_slots}
 use Rattle.meaning.specs.Expression.{location_of, expression_type, argument_errors, expression_errors, expression_slots}
@@ -59,6 +59,17 @@ move_expression g (expression_then e rest) = expression_then (move_expression g 
 pub either_errors : (f : TypeError → TypeError) (x : Bool) (a b : List TypeError) → map f (cond x a b) ≡ cond x (map f a) (map f b)
 either_errors f true a b = refl
 either_errors f false a b = refl
+
+-- The errors of a test and of what follows it
+pub unless_then : (f : TypeError → TypeError) (x : Bool) (e : TypeError) (a b : List TypeError) → b ≡ map f a → unless x (f e) ++ b ≡ map f (unless x e ++ a)
+unless_then f true e a b p = p
+unless_then f false e a b p = ap (λ (l : List TypeError). f e ∷ l) p
+
+-- Those of a choice of that or of none
+unless_where : (f : TypeError → TypeError) (k x : Bool) (e : TypeError) (a b : List TypeError) → b ≡ map f a
+    → cond k (unless x (f e) ++ b) [] ≡ map f (cond k (unless x e ++ a) [])
+unless_where f true x e a b p = unless_then f x e a b p
+unless_where f false x e a b p = refl
 
 -- Types
 module _ (g : ℕ → ℕ) (ctx : ModuleContext) where
@@ -130,7 +141,8 @@ argument_errors_lem : (g : ℕ → ℕ) (l : Location) (i : ℕ) (parameters arg
     → argument_errors (moved g l) i parameters arguments ≡ map (move_place g) (argument_errors l i parameters arguments)
 unfolding argument_errors
 argument_errors_lem g l i end arguments = refl
-argument_errors_lem g l i (node k t rest s n) arguments = rw (argument_errors_lem g l (i + 1) rest (second_of arguments)) (simp (either_errors, map-append))
+argument_errors_lem g l i (node k t rest s n) arguments =
+    unless_where (move_place g) _ _ (invalid_argument l i t (first_of arguments)) _ _ (argument_errors_lem g l (i + 1) rest (second_of arguments))
 
 module _ (g : ℕ → ℕ) (ctx : Context) where
   expression_type_lem : (e : Expression) → expression_type ctx (move_expression g e) ≡ expression_type ctx e

@@ -1,5 +1,5 @@
 -- The table of type rows (document 01, "Type rows"): words in a lent slice, rows numbered from 1.
-use Rattle.std.specs.Prelude.{ℕ, zero, suc, ◌+◌, ◌-◌, ◌*◌, ◌^◌, ◌≤◌, ◌<◌, ◌≡◌, List, [], ◌∷◌, ◌++◌, Bool, true, false, cond, ◌||◌, ◌⊎◌, length, get_or, drop, eqb, ltb}
+use Rattle.std.specs.Prelude.{ℕ, zero, suc, ◌+◌, ◌*◌, ◌^◌, ◌≤◌, ◌<◌, ◌≡◌, List, [], ◌∷◌, ◌++◌, Bool, true, false, cond, ◌||◌, ◌⊎◌, length, get_or, drop, eqb, ltb}
 use Rattle.types.specs.Ty.{Ty, end, node, same, unknown_kind, void_kind, bool_kind, u16_kind, i16_kind, pointer_kind}
 use Rattle.types.specs.Ty.{array_kind, struct_kind, function_kind, alias_kind, distinct_kind, field_kind, argument_kind}
 use Rattle.types.specs.Ty.{string_name}

@@ -1,7 +1,7 @@
 -- Unfolded types (document 01, "Words of demand 3"): a row unfolded is its words, each row number among them replaced by that row unfolded.
 -- One node serves every kind, so that a definition over types has two clauses. A row's fifth word is no part of it: it follows from the
 -- others (`size_word`), so rows that unfold to the same have the same (`same_size`).
-use Rattle.std.specs.Prelude.{ℕ, suc, ◌+◌, Bool, true, false, cond, not, ◌&&◌, ◌||◌, List, [], ◌∷◌, ◌++◌, eqb}
+use Rattle.std.specs.Prelude.{ℕ, suc, Bool, true, false, cond, not, ◌&&◌, ◌||◌, List, [], ◌∷◌, ◌++◌, eqb}
 use Rattle.std.proofs.Math.Option.{Option, none, some}
 
 -- `end` is the row number 0: no row, or the end of a list of cells.

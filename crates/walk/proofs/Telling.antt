@@ -7,7 +7,7 @@ use Rattle.fallible.specs.declared.Error.{Error}
 use Rattle.fallible.specs.Errors.{ErrorList, error_list, push_all}
 use Rattle.meaning.specs.TypeError.{TypeError}
 use Rattle.walk.specs.declared.State.{State}
-use Rattle.walk.specs.Effect.{◌then◌, reporting, needed}
+use Rattle.walk.specs.Effect.{reporting, needed}
 use Rattle.walk.specs.Represents.{lent, Good, Grew, Spells, SpellsAll, Told, Represents, Does}
 use Rattle.walk.specs.Post.{counted, Reported, Tells, Walked}
 use Rattle.walk.proofs.Laws.{grew_same, frame_none, report_last}

@@ -1,5 +1,4 @@
 use Rattle.rows.proofs.Search as laws
-use Prim.Native.Nat.{◌-◌}
 use native.Mathlib.Omega.{arith}
 use borrow.Author.Rules.{rules}
 use Rattle.rows.proofs.find.Goals as goal

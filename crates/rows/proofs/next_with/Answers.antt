@@ -1,5 +1,4 @@
 use Rattle.rows.proofs.Search as laws
-use Prim.Native.Nat.{◌-◌}
 use native.Mathlib.Omega.{arith}
 use Rattle.rows.proofs.next_with.Goals as goal
 

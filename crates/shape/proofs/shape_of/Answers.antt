@@ -1,8 +1,8 @@
 use native.Mathlib.Omega.{arith}
-use mathlib.Core.Logic.{⊎_elim}
 use Rattle.shape.proofs.ShapeLaws.{shaped, below_16, below_32, below_64, below_80, above_84}
 use Rattle.shape.specs.Shape.{shape_of}
 use Rattle.shape.proofs.shape_of.Goals as goal
+use Rattle.shape.proofs.shape_of.Goals.{in_default-via-then-kind-lt16, in_default-via-else-kind-lt16+else-kind-lt21+then-kind-lt32, in_default-via-else-kind-lt16+else-kind-lt21+else-kind-lt32+else-kind-lt48+then-kind-lt64, in_default-via-else-kind-lt16+else-kind-lt21+else-kind-lt32+else-kind-lt48+else-kind-lt64+else-kind-lt75+then-kind-lt80, in_default-via-else-kind-lt16+else-kind-lt21+else-kind-lt32+else-kind-lt48+else-kind-lt64+else-kind-lt75+else-kind-lt80+else-kind-lt85}
 
 pub returns-in-1 : goal.returns-in-1
 unfolding shape_of
@@ -38,13 +38,10 @@ returns-in-85 c = shaped _ 85 c.in-85.is c.one_field-in-85.ensures
 
 pub returns-in_default : goal.returns-in_default
 returns-in_default c = let r = c.in_default-1.rest in
-    ⊎_elim
-    (λ w. below_16 _ c.no_field-in_default.ensures r.0.0.0.0.0 (omega arith))
-    (⊎_elim
-    (λ w. below_32 _ c.no_field-in_default.ensures (tt, r.0.0.0.0.1) (omega arith) (omega arith))
-    (⊎_elim
-    (λ w. below_64 _ c.no_field-in_default.ensures (((tt, r.0.0.0.1), r.0.0.1), r.0.1) (omega arith) (omega arith))
-    (⊎_elim
-    (λ w. below_80 _ c.no_field-in_default.ensures (omega arith) (omega arith))
-    (λ w. above_84 _ c.no_field-in_default.ensures (tt, r.1) (omega arith) (omega arith)))))
-    c.in_default.branch
+    elim c.in_default.branch [
+      | in_default-via-then-kind-lt16 w ↦ below_16 _ c.no_field-in_default.ensures r.0.0.0.0.0 (omega arith)
+      | in_default-via-else-kind-lt16+else-kind-lt21+then-kind-lt32 w ↦ below_32 _ c.no_field-in_default.ensures (tt, r.0.0.0.0.1) (omega arith) (omega arith)
+      | in_default-via-else-kind-lt16+else-kind-lt21+else-kind-lt32+else-kind-lt48+then-kind-lt64 w ↦ below_64 _ c.no_field-in_default.ensures (((tt, r.0.0.0.1), r.0.0.1), r.0.1) (omega arith) (omega arith)
+      | in_default-via-else-kind-lt16+else-kind-lt21+else-kind-lt32+else-kind-lt48+else-kind-lt64+else-kind-lt75+then-kind-lt80 w ↦ below_80 _ c.no_field-in_default.ensures (omega arith) (omega arith)
+      | in_default-via-else-kind-lt16+else-kind-lt21+else-kind-lt32+else-kind-lt48+else-kind-lt64+else-kind-lt75+else-kind-lt80+else-kind-lt85 w ↦ above_84 _ c.no_field-in_default.ensures (tt, r.1) (omega arith) (omega arith)
+    ]

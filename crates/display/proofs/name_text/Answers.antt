@@ -1,0 +1,26 @@
+use native.Mathlib.Omega.{arith}
+use Rattle.display.proofs.Naming as laws
+use Rattle.display.proofs.name_text.Goals as goal
+
+pub returns-then-name-eq-STRING_NAME : goal.returns-then-name-eq-STRING_NAME
+returns-then-name-eq-STRING_NAME c = search laws.built_in_name
+
+pub bounds-places-name : goal.bounds-places-name
+bounds-places-name c = search laws.in_room
+
+pub overflow_cast-at-2 : goal.overflow_cast-at-2
+overflow_cast-at-2 c = omega (arith, c.shared_slice_known-4-1.given c.args.name)
+
+pub length_at-requires : goal.length_at-requires
+length_at-requires c = search laws.head_inside
+
+pub overflow_add-stop : goal.overflow_add-stop
+overflow_add-stop c = omega (arith, c.length_at.ensures.small, c.shared_slice_known-4-1.given c.args.name)
+
+pub name_at-requires : goal.name_at-requires
+name_at-requires c =
+    let w = laws.whole _ _ _ c.requires.names_listed c.requires.name_exists c.if-name-eq-STRING_NAME.false _ c.length_at.ensures in
+    record { at_bound = w.0; stop_value = w.1 }
+
+pub returns : goal.returns
+returns c = search laws.named

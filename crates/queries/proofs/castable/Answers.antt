@@ -1,0 +1,11 @@
+use mathlib.Core.Path.{refl}
+use Rattle.queries.proofs.castable.Goals as goal
+
+pub returns-then-not-two_types : goal.returns-then-not-two_types
+returns-then-not-two_types c = (c.two_types.ensures.no c.if-not-two_types.true, refl, refl)
+
+pub search_cast-requires : goal.search_cast-requires
+search_cast-requires c = search (c.two_types.ensures.yes c.if-not-two_types.false)
+
+pub returns : goal.returns
+returns c = (c.two_types.ensures.yes c.if-not-two_types.false, c.search_cast.ensures)

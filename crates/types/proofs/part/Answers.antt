@@ -1,0 +1,5 @@
+use Rattle.types.proofs.Query as query
+use Rattle.types.proofs.part.Goals as goal
+
+pub returns : goal.returns
+returns c = search query.read_part
