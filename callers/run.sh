@@ -12,9 +12,9 @@ mkdir -p "$out"
 unset DELTA_NULL_LIB # the library made here is the one that is linked
 
 echo "callers: exports is proved first, which takes some minutes from nothing ($out/staticlib.log)" >&2
-rt staticlib exports >"$out/staticlib.log" 2>&1 || { tail -5 "$out/staticlib.log"; exit 1; }
+(cd crates/exports && rt lib) >"$out/staticlib.log" 2>&1 || { tail -5 "$out/staticlib.log"; exit 1; }
 for program in check_file decay stack; do
-    cc -std=c11 -Wall -Wextra -Wpedantic -Werror -O2 -pthread -Iinclude "callers/c/$program.c" target/staticlib/libexports.a -o "$out/${program}_c"
+    cc -std=c11 -Wall -Wextra -Wpedantic -Werror -O2 -pthread -Iinclude "callers/c/$program.c" crates/exports/out/libexports.a -o "$out/${program}_c"
 done
 cargo() { command cargo "$@" --quiet --offline --manifest-path callers/rust/Cargo.toml --target-dir "$out/rust"; }
 cargo build --release --example check_file

@@ -1,6 +1,6 @@
 /* The type checker of Delta Null modules, for C and C++.
  *
- * Link target/staticlib/libexports.a, which `rt staticlib exports` writes (x86-64 Linux).
+ * Link crates/exports/out/libexports.a, which `rt lib` writes in crates/exports (x86-64 Linux).
  *
  * What is promised here is proved in Rattle: the contracts stand in crates/exports/src/lib.rt, and the definitions that they
  * cite in crates/exports/specs. The functions write nothing but the parts lent to them, keep no state, always return, and accept

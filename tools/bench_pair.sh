@@ -1,13 +1,13 @@
 #!/bin/sh
 # Measures the product against an earlier one:  DELTA_NULL_SRC=FOLDER tools/bench_pair.sh OLD
-# OLD is a clone of that commit in which `rt staticlib exports` was run; FOLDER has the source of the Rust reference, which draws up the
+# OLD is a clone of that commit in which `rt lib` was run in crates/exports; FOLDER has the source of the Rust reference, which draws up the
 # modules. Where the code lies in memory moves a class by some parts of a hundred, so each library is linked in four
 # places; for each class the mean of the 16 ratios, new over old, the least and the greatest are written. Then the microseconds of the
 # questions about rows, of both (bench/questions.c, built with the header of each).
 set -e
 . "$(dirname "$0")/common.sh"
-old=$1/target/staticlib/libexports.a
-[ -f "$old" ] || stop "usage: DELTA_NULL_SRC=FOLDER tools/bench_pair.sh OLD, in which target/staticlib/libexports.a is made"
+old=$1/crates/exports/out/libexports.a
+[ -f "$old" ] || stop "usage: DELTA_NULL_SRC=FOLDER tools/bench_pair.sh OLD, in which crates/exports/out/libexports.a is made"
 old=$(realpath "$old")
 old_header=$(realpath "$1/include")
 need cc

@@ -28,8 +28,8 @@ need_product() {
         return
     fi
     need rt
-    library=$(dirname "$0")/../target/staticlib/libexports.a
-    (cd "$(dirname "$0")/.." && rt staticlib exports) >&2
+    library=$(dirname "$0")/../crates/exports/out/libexports.a
+    (cd "$(dirname "$0")/../crates/exports" && rt lib) >&2
     DELTA_NULL_LIB=$(realpath "$library")
     export DELTA_NULL_LIB
     product=linked

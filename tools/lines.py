@@ -1,5 +1,5 @@
 #!/usr/bin/env python3
-"""Counts lines, comments included: code, specifications, laws, answers (Proof.antt), must-fail edits; of each crate and in all. Then how many
+"""Counts lines, comments included: code, specifications, laws, answers (Answers.antt, Invariants.antt, Proof.antt), must-fail edits; of each crate and in all. Then how many
 lines of code have more than 140 characters, and how many functions have 40 lines or more with their contract.
 
     tools/lines.py [FOLDER]      FOLDER: a checkout of the repository, this one if none is named
@@ -8,6 +8,7 @@ import re
 import sys
 from pathlib import Path
 
+ANSWERS = ("Answers.antt", "Invariants.antt", "Proof.antt")
 COLUMNS = ("code", "spec", "laws", "answers", "edits")
 
 
@@ -20,8 +21,8 @@ def counts(crate):
     return (
         lines(crate.glob("src/**/*.rt")),
         lines(crate.glob("specs/*.antt")),
-        lines(f for f in proofs if f.name != "Proof.antt"),
-        lines(f for f in proofs if f.name == "Proof.antt"),
+        lines(f for f in proofs if f.name not in ANSWERS),
+        lines(f for f in proofs if f.name in ANSWERS),
         len(list(crate.glob("must-fail/*.edit"))),
     )
 

@@ -12,25 +12,24 @@ ROOT = os.path.join(os.path.dirname(os.path.abspath(__file__)), '..')
 PER_FILE = 20
 # files of specs/ whose definitions no theorem here has to open
 CLOSED = ('Lib.antt', 'BenchSheet.antt', 'JoiningOrder.antt', 'Inner.antt', 'Entry.antt')
-HEAD = '''use Prim.Native.Nat.{ℕ}
-use mathlib.Core.Path.{_≡_, refl}
-use mathlib.Core.List.{List, [], _∷_, map}
-use mathlib.Core.Option.{Option, none, some}
-use Rattle·types.specs.Ty.{Ty, end, node}
-use Rattle·layout.specs.Layout.{layoutOf, layoutRefusal}
-use Rattle·names.specs.Names.{repeatedName, nameRefusal, itemsOf}
-use Rattle·trees.specs.Record.{itemTree}
-use Rattle·meaning.specs.TypeError.{TypeError, Operand, plain, row}
-use Rattle·meaning.specs.Context.{each}
-use Rattle·meaning.specs.Module.{itemTypes}
-use Rattle·meaning.specs.Promise.{placedErrorsOf, Counts, countsOf, contextOf}
-use Rattle·cases·proofs.proofs.Open.{opened}
+HEAD = '''use Rattle.std.specs.Prelude.{ℕ, ◌≡◌, List, [], ◌∷◌, map, Option}
+use mathlib.Core.Path.{refl}
+use mathlib.Core.Option.{none, some}
+use Rattle.types.specs.Ty.{Ty, end, node}
+use Rattle.layout.specs.Layout.{layout_of, layout_refusal}
+use Rattle.names.specs.Names.{repeated_name, name_refusal, items_of}
+use Rattle.trees.specs.Record.{item_tree}
+use Rattle.meaning.specs.TypeError.{TypeError, Operand, plain, row}
+use Rattle.meaning.specs.Context.{each}
+use Rattle.meaning.specs.Module.{item_types}
+use Rattle.meaning.specs.Promise.{placed_errors_of, Counts, counts_of, context_of}
+use Rattle.cases.proofs.Open.{opened}
 
 abbrev told : (kind file line column : ℕ) → (first second third : Operand) → (place : ℕ) → TypeError
 told k f l c x y z p = record { kind = k; file = f; line = l; column = c; first = x; second = y; third = z; place = p }
 
-abbrev slotsOf : List ℕ → List Ty
-slotsOf m = each (λ b. itemTypes (contextOf m) (itemTree b)) (itemsOf m)
+abbrev slots_of : List ℕ → List Ty
+slots_of m = each (λ b. item_types (context_of m) (item_tree b)) (items_of m)
 '''
 
 
@@ -143,8 +142,8 @@ def theorem(name, statement):
 
 def refused(i, line):
     number, place = re.match(r'refused (\d+) at (\d+)', line).groups()
-    which = 'layoutRefusal (layoutOf module-%d)' if number in '123' else 'nameRefusal (repeatedName module-%d)'
-    return theorem('refused-%d' % i, '%s ≡ some (%s, %s)' % (which % i, number, place))
+    which = 'layout_refusal (layout_of module_%d)' if number in '123' else 'name_refusal (repeated_name module_%d)'
+    return theorem('refused_%d' % i, '%s ≡ some (%s, %s)' % (which % i, number, place))
 
 
 def accepted(i, said):
@@ -152,10 +151,10 @@ def accepted(i, said):
     told = [error(line) for line in said if line.startswith('error ')]
     slots = [slot(line) for line in said if line.startswith('slot ')]
     return (
-        theorem('passes-%d' % i, 'layoutRefusal (layoutOf module-%d) ≡ none' % i)
-        + theorem('counts-%d' % i, 'countsOf module-%d ≡ record { rows = %s; errors = %s }' % (i, rows, errors))
-        + theorem('errors-%d' % i, 'placedErrorsOf module-%d ≡ %s' % (i, listed(told)))
-        + theorem('slots-%d' % i, 'slotsOf module-%d ≡ %s' % (i, listed(slots)))
+        theorem('passes_%d' % i, 'layout_refusal (layout_of module_%d) ≡ none' % i)
+        + theorem('counts_%d' % i, 'counts_of module_%d ≡ record { rows = %s; errors = %s }' % (i, rows, errors))
+        + theorem('errors_%d' % i, 'placed_errors_of module_%d ≡ %s' % (i, listed(told)))
+        + theorem('slots_%d' % i, 'slots_of module_%d ≡ %s' % (i, listed(slots)))
     )
 
 
@@ -167,7 +166,7 @@ def theorems(i, data, said):
         facts = accepted(i, said)
     else:
         return None
-    return '\nabbrev module-%d : List ℕ\nmodule-%d = %s\n' % (i, i, listed([str(byte) for byte in data])) + facts
+    return '\nabbrev module_%d : List ℕ\nmodule_%d = %s\n' % (i, i, listed([str(byte) for byte in data])) + facts
 
 
 def all_theorems(said, modules):
@@ -184,7 +183,7 @@ def all_theorems(said, modules):
 
 def opening(crates):
     """A definition that opens all others: every one that unfolds, found in the specs."""
-    text, names, seen = 'use Prim.Native.Nat.{ℕ}\n', [], set()
+    text, names, seen = 'use Rattle.std.specs.Prelude.{ℕ}\n', [], set()
     for crate in crates:
         specs = os.path.join(ROOT, 'crates', crate, 'specs')
         files = sorted(os.listdir(specs)) if os.path.isdir(specs) else []
@@ -193,12 +192,12 @@ def opening(crates):
                 continue
             used = []
             for name in re.findall(r'^unfoldable pub ([^\s:]+) :', read(specs, file), re.M):
-                own = '%s-%s' % (name, crate) if name in seen else name
+                own = '%s_%s' % (name, crate) if name in seen else name
                 used.append(name if own == name else '%s as %s' % (name, own))
                 names.append(own)
                 seen.add(name)
             if used:
-                text += 'use Rattle·%s.specs.%s.{%s}\n' % (crate, file[:-5], ', '.join(used))
+                text += 'use Rattle.%s.specs.%s.{%s}\n' % (crate, file[:-5], ', '.join(used))
     return text + '\n-- Opens every definition\nunfoldable pub opened : ℕ\nunfolding %s\nopened = 0\n' % ' '.join(names)
 
 
@@ -209,10 +208,10 @@ def copy_crates(folder, lines):
     for part in ('src', 'proofs'):
         os.makedirs(os.path.join(folder, 'crates', 'cases', part))
     for crate in crates:
-        left_out = shutil.ignore_patterns('must-fail')
+        left_out = shutil.ignore_patterns('must-fail', 'out')
         shutil.copytree(os.path.join(ROOT, 'crates', crate), os.path.join(folder, 'crates', crate), ignore=left_out)
     write(''.join(lines) + 'cases: ' + ' '.join(crates) + '\n', folder, 'crates.txt')
-    write('// The theorems are in proofs/.\n', folder, 'crates', 'cases', 'src', 'lib.rt')
+    write('// The theorems are in proofs/.\n#![tactic(auto)]\n', folder, 'crates', 'cases', 'src', 'lib.rt')
     return crates
 
 

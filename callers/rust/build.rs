@@ -1,4 +1,4 @@
-//! Links `libexports.a`, which `rt staticlib exports` writes. `DELTA_NULL_LIB` names its folder if it is another.
+//! Links `libexports.a`, which `rt lib` writes in crates/exports. `DELTA_NULL_LIB` names its folder if it is another.
 use std::env;
 use std::path::Path;
 
@@ -7,7 +7,7 @@ fn main() {
     let here = env::var("CARGO_MANIFEST_DIR").expect("cargo says where the package is");
     let folder = match env::var("DELTA_NULL_LIB") {
         Ok(folder) => folder,
-        Err(_) => Path::new(&here).join("../../target/staticlib").display().to_string(),
+        Err(_) => Path::new(&here).join("../../crates/exports/out").display().to_string(),
     };
     println!("cargo:rerun-if-changed={folder}/libexports.a");
     println!("cargo:rustc-link-search=native={folder}");

@@ -151,7 +151,7 @@ impl Product {
     }
 }
 
-/// The product as a static library, as `rt staticlib` makes it: a slice is a pointer and a length.
+/// The product as a static library, as `rt lib` makes it: a slice is a pointer and a length.
 #[cfg(linked)]
 mod linked {
     use super::{FILL, LIMIT, Loans, Question, ROOMY, Reply, Said, Tell, Told};

@@ -1,5 +1,5 @@
 -- Where the integer literals of a module stand, and their digits.
-use Rattle.std.specs.Prelude.{ℕ, ◌+◌, ◌-◌, ◌≤◌, ◌<◌, ◌≡◌, cond, List, [], ◌∷◌, ◌++◌, ◌⊎◌, eqb, length, get_or, take, drop, set}
+use Rattle.std.specs.Prelude.{ℕ, ◌-◌, ◌≤◌, ◌<◌, ◌≡◌, cond, List, [], ◌∷◌, ◌++◌, ◌⊎◌, eqb, length, get_or, take, drop, set}
 use Rattle.shape.specs.Kinds as kinds
 use Rattle.record_bytes.specs.Bytes.{word_at, head_size, fields_end}
 use Rattle.trees.specs.Record.{Records, no_records, record_then, records_at, holds_free_bytes}
