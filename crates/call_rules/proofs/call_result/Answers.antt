@@ -1,3 +1,4 @@
+-- A law for each exit.
 use native.Mathlib.Omega.{arith}
 use mathlib.Core.Logic.{inr}
 use Rattle.call_rules.proofs.Exits as exits

@@ -1,3 +1,4 @@
+-- A law for each exit and each turn of its loop.
 use Prim.Native.Nat.{◌-◌}
 use Rattle.call_rules.proofs.Turns as turns
 use Rattle.call_rules.proofs.check_arguments.Given as goal

@@ -1,3 +1,4 @@
+-- A law for each exit and each turn of its loop.
 use Prim.Native.Nat.{◌-◌}
 use Rattle.call_rules.proofs.Chains as chains
 use Rattle.call_rules.proofs.count_records.Given as goal

@@ -1,3 +1,4 @@
+-- The measure is twice the levels left, and one more for a block. The loop: what is left to clear clears the whole.
 use Rattle.clear_locals.proofs.Walks as laws
 use Prim.Native.Nat.{◌+◌, ◌-◌, ◌*◌}
 use Rattle.clear_locals.proofs.+clear_block_clear_statement.Given as goal

@@ -1,3 +1,4 @@
+-- The loop: what is left to clear clears the whole.
 use Prim.Native.Nat.{◌-◌}
 use Rattle.clear_locals.proofs.Walks as laws
 use Rattle.clear_locals.proofs.clear_parameters.Given as goal

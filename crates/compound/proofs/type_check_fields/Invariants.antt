@@ -1,3 +1,4 @@
+-- The loop: what is left to do does what is left of the whole.
 use Prim.Native.Nat.{◌-◌}
 use mathlib.Core.Path.{◌≡◌}
 use lib.ListN.{length}

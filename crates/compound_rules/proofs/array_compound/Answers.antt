@@ -1,3 +1,4 @@
+-- A law for each exit.
 use Rattle.call_rules.proofs.Exits as exits
 use Rattle.compound_rules.proofs.Elements as elements
 use borrow.Author.Rules.{rules}

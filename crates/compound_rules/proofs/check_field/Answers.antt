@@ -1,3 +1,4 @@
+-- A law for each exit.
 use Rattle.compound_rules.proofs.Fields as fields
 use borrow.Author.Rules.{rules}
 use Rattle.compound_rules.proofs.check_field.Goals as goal

@@ -1,3 +1,4 @@
+-- A law for each exit and each turn of its loop.
 use Prim.Native.Nat.{◌-◌}
 use Rattle.compound_rules.proofs.Fields as fields
 use Rattle.compound_rules.proofs.check_fields.Given as goal

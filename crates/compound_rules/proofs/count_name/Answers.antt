@@ -1,3 +1,4 @@
+-- A law for each exit.
 use Rattle.compound_rules.proofs.Tables as tables
 use Rattle.compound_rules.proofs.count_name.Goals as goal
 

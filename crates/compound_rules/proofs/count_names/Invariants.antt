@@ -1,3 +1,4 @@
+-- A law for each exit and each turn of its loop.
 use Prim.Native.Nat.{◌-◌}
 use Rattle.compound_rules.proofs.Tables as tables
 use Rattle.compound_rules.proofs.count_names.Given as goal

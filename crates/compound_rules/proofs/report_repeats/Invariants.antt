@@ -1,3 +1,4 @@
+-- A law for each exit and each turn of its loop.
 use Prim.Native.Nat.{◌-◌}
 use Rattle.compound_rules.proofs.Repeats as repeats
 use Rattle.compound_rules.proofs.report_repeats.Given as goal

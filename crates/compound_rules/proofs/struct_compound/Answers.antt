@@ -1,3 +1,4 @@
+-- A law for each exit.
 use Rattle.compound_rules.proofs.Repeats as repeats
 use Rattle.compound_rules.proofs.struct_compound.Goals as goal
 

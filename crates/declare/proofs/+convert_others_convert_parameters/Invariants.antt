@@ -1,3 +1,4 @@
+-- `convert_parameters` and `convert_others` call each other with fewer bytes left.
 use Prim.Native.Nat.{◌+◌, ◌-◌, ◌*◌}
 use Rattle.declare.proofs.+convert_others_convert_parameters.Given as goal
 

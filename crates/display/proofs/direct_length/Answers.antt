@@ -1,3 +1,4 @@
+-- An equation for each kind.
 use Rattle.display.proofs.Openings as laws
 use Rattle.types.specs.Ty.{unknown_kind, void_kind, bool_kind, u16_kind, i16_kind, pointer_kind}
 use mathlib.Core.Path.{◌≡◌}

@@ -1,3 +1,4 @@
+-- The loop: the working words of the first i rows are filled.
 use Rattle.display.specs.Names.{name_text}
 use Rattle.display.specs.Length.{Filled}
 use Prim.Native.Nat.{◌-◌, ◌≤◌}

@@ -1,3 +1,4 @@
+-- A law for each kind.
 use Rattle.display.proofs.Openings as laws
 use Rattle.display.proofs.named_length.Goals as goal
 

@@ -1,3 +1,4 @@
+-- A law for each kind.
 use borrow.Author.Rules.{rules}
 use native.Mathlib.Omega.{arith}
 use Rattle.text.proofs.Decimals.{decimal_at_most_ten}

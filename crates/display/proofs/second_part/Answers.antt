@@ -1,3 +1,4 @@
+-- A law for each kind.
 use Rattle.display.proofs.PartRows as laws
 use Rattle.display.proofs.second_part.Goals as goal
 

@@ -1,3 +1,4 @@
+-- A law for each kind.
 use Rattle.display.proofs.Middles as laws
 use Rattle.display.proofs.write_middle.Goals as goal
 

@@ -1,3 +1,4 @@
+-- A law for each kind.
 use borrow.Author.Rules.{rules}
 use Rattle.display.proofs.Openings as laws
 use Rattle.display.proofs.write_opening.Goals as goal

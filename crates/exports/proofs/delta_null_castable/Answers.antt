@@ -1,3 +1,4 @@
+-- `delta_null_castable`: the promise of `castable`, and its answer as `put_cast` tells it.
 use Rattle.queries.specs.Entry.{searched_of}
 use Rattle.exports.proofs.delta_null_castable.Goals as goal
 

@@ -1,3 +1,4 @@
+-- `delta_null_type_check_module`: in each case of the answer, the promise of the check gives what is told of it.
 use Rattle.exports.proofs.Telling as telling
 use Rattle.exports.proofs.delta_null_type_check_module.Goals as goal
 

@@ -1,3 +1,4 @@
+-- A law for each exit.
 use mathlib.Core.Path.{sym, ◌∙◌}
 use Rattle.expression.proofs.Laws as laws
 use Rattle.expression.proofs.Heads as heads

@@ -1,3 +1,4 @@
+-- A law for each exit.
 use Rattle.expression_rules.proofs.Exits as exits
 use Rattle.expression_rules.proofs.arithmetic.Goals as goal
 

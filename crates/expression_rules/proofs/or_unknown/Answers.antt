@@ -1,3 +1,4 @@
+-- A law for each exit.
 use Rattle.expression_rules.proofs.Found as found
 use Rattle.expression_rules.proofs.or_unknown.Goals as goal
 

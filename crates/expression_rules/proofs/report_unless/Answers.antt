@@ -1,3 +1,4 @@
+-- A law for each exit.
 use Rattle.expression_rules.proofs.Laws as laws
 use Rattle.expression_rules.proofs.report_unless.Goals as goal
 

@@ -1,3 +1,4 @@
+-- A law for each exit.
 use Rattle.expression_rules.proofs.Found as found
 use Rattle.expression_rules.proofs.resolve_identifier.Goals as goal
 

@@ -1,3 +1,4 @@
+-- The stores are those of `pushed`, whose places count by `suc`.
 use mathlib.Core.Path.{sym}
 use native.Mathlib.Numerals.{towards_suc}
 use native.Mathlib.Omega.{arith}

@@ -1,3 +1,4 @@
+-- The loop: the words before `i` are done.
 use Rattle.items.proofs.Locals as laws
 use lib.ListN.{length}
 use Prim.Native.Nat.{◌+◌, ◌-◌, ◌%◌, ◌≤◌}

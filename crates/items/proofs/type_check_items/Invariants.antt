@@ -1,3 +1,4 @@
+-- The loop: what is left to do does what is left of the whole.
 use Rattle.items.proofs.Items as laws
 use Rattle.walk.specs.Represents.{lent}
 use lib.ListN.{length}

@@ -1,3 +1,4 @@
+-- The loop: the parameters before `at` are checked.
 use Rattle.items.proofs.Parameters as laws
 use Rattle.walk.specs.Represents.{lent}
 use lib.ListN.{length}

@@ -1,3 +1,4 @@
+-- A law for each exit.
 use Rattle.literal.proofs.Laws as laws
 use Rattle.literal.proofs.from_str_radix_with.Goals as goal
 

@@ -1,3 +1,5 @@
+-- The loop's invariant: the value read so far is a `u16`, and the answer is that of the digits left, begun at it. The measure is what is left of the
+-- digits.
 use Prim.Native.Nat.{◌≤◌, ◌-◌}
 use mathlib.Core.Path.{◌≡◌}
 use lib.ListN.{length, drop}

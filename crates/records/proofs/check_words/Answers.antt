@@ -1,3 +1,4 @@
+-- The check gets the words of the records alone.
 use native.Mathlib.Omega.{arith}
 use lib.Seq.{length-take-le}
 use mathlib.Core.Path.{sym}

@@ -1,3 +1,4 @@
+-- `error_at` gives the error that its words make.
 use Rattle.records.proofs.Laws as laws
 use Rattle.records.proofs.error_at.Goals as goal
 

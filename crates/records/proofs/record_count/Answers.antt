@@ -1,3 +1,4 @@
+-- No record, or all, where the module is turned back.
 use Rattle.records.proofs.Promise as promise
 use Rattle.records.proofs.record_count.Goals as goal
 

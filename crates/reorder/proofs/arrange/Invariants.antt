@@ -1,3 +1,4 @@
+-- The loop: the first i items are written.
 use Prim.Native.Nat.{◌-◌}
 use lib.ListN.{length}
 use Rattle.reorder.proofs.Arranging.{Arranging}

@@ -1,3 +1,4 @@
+-- The loop: the first i bytes are copied.
 use mathlib.Core.Path.{◌≡◌}
 use Prim.Native.Nat.{◌-◌, ◌≤◌}
 use lib.ListN.{length}

@@ -1,3 +1,4 @@
+-- The loop: the items before `at` are listed.
 use mathlib.Core.Path.{◌≡◌}
 use Prim.Native.Nat.{◌-◌}
 use lib.ListN.{length}

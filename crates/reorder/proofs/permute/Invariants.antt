@@ -1,3 +1,4 @@
+-- The loop: the places before `left` are not in their order yet.
 use Rattle.reorder.proofs.Exchanges.{Permuting}
 use Rattle.reorder.proofs.permute.Given as goal
 

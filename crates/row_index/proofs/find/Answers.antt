@@ -1,3 +1,4 @@
+-- Rows that have no place are looked for one after the other.
 use Rattle.row_index.proofs.Index as laws
 use Rattle.row_index.proofs.find.Goals as goal
 

@@ -1,3 +1,4 @@
+-- The loop: no row of its bucket above row n has the words. Then the rows that have no place.
 use Rattle.row_index.proofs.Index as laws
 use Rattle.row_index.proofs.find_twin.Given as goal
 

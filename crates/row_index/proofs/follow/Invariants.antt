@@ -1,3 +1,4 @@
+-- The loop: no row of its bucket above row n has the words.
 use Rattle.row_index.proofs.Index as laws
 use Rattle.row_index.proofs.follow.Given as goal
 

@@ -1,3 +1,4 @@
+-- The loop: the first n rows are in their buckets.
 use Prim.Native.Nat.{◌-◌}
 use Rattle.row_index.proofs.Additions as laws
 use Rattle.row_index.proofs.link_all.Given as goal

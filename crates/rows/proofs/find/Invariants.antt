@@ -1,3 +1,4 @@
+-- The loop: none of the rows that were passed has the words.
 use Rattle.rows.proofs.Search as laws
 use Prim.Native.Nat.{◌-◌}
 use Rattle.rows.proofs.find.Given as goal

@@ -1,3 +1,4 @@
+-- The loop: none of the rows that were passed has the key.
 use Rattle.rows.specs.Search.{Skipped}
 use Prim.Native.Nat.{◌-◌}
 use Rattle.rows.proofs.next_with.Given as goal

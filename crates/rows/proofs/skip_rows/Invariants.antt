@@ -1,3 +1,4 @@
+-- The loop: none of the rows that were passed has the key.
 use Prim.Native.Nat.{◌-◌}
 use Rattle.rows.specs.Search.{Skipped}
 use Rattle.rows.proofs.skip_rows.Given as goal

@@ -1,3 +1,4 @@
+-- The measure is twice the levels left, and one more for a block. The loop: what is left to do does what is left of the whole.
 use mathlib.Core.Path.{◌≡◌}
 use lib.ListN.{length}
 use Rattle.walk.specs.Represents.{lent}

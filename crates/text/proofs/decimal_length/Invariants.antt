@@ -1,3 +1,4 @@
+-- The loop: so many digits are counted, and `left` are the others.
 use Rattle.text.proofs.Decimals.{Counting}
 use Rattle.text.proofs.decimal_length.Given as goal
 

@@ -1,3 +1,4 @@
+-- The loop: the first i bytes are written.
 use Prim.Native.Nat.{◌-◌, ◌≤◌}
 use mathlib.Core.Path.{◌≡◌}
 use lib.ListN.{length, take}

@@ -1,3 +1,4 @@
+-- The loop: the digits behind `to` are written, and `left` are those before it.
 use Rattle.text.proofs.Decimals.{Putting}
 use Rattle.text.proofs.put_decimal.Given as goal
 

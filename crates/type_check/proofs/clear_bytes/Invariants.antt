@@ -1,3 +1,4 @@
+-- The loop: the first i are 0, the rest is as it was.
 use mathlib.Core.Path.{◌≡◌}
 use Prim.Native.Nat.{◌-◌, ◌≤◌}
 use lib.ListN.{length}

@@ -1,3 +1,5 @@
+-- Both loops: the cells counted, and those from here on, are those of the list; the inner one has the place of the next. The measure is the row
+-- number.
 use Prim.Native.Nat.{◌*◌, ◌-◌, ◌≤◌}
 use mathlib.Core.Path.{◌≡◌}
 use Rattle.types.proofs.Lists as lists

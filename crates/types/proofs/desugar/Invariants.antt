@@ -1,3 +1,5 @@
+-- Both loops: the row reached desugars to what row n does; the inner one has its place. A row points only to lower rows, so its number is the
+-- measure.
 use Prim.Native.Nat.{◌*◌, ◌-◌, ◌≤◌}
 use mathlib.Core.Path.{◌≡◌}
 use Rattle.types.proofs.Query as query

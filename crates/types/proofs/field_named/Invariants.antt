@@ -1,3 +1,4 @@
+-- Both loops: what the list has of that name, it has from here on; the inner one has the place of the next cell. The measure is the row number.
 use Prim.Native.Nat.{◌*◌, ◌-◌, ◌≤◌}
 use mathlib.Core.Path.{◌≡◌}
 use Rattle.types.proofs.Lists as lists

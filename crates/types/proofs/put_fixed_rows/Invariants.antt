@@ -1,3 +1,4 @@
+-- The loop: the words that were passed are stored, and no other is changed.
 use Rattle.types.specs.Table.{fixed_length}
 use Rattle.types.proofs.Fixed as fixed
 use Prim.Native.Nat.{◌≤◌, ◌-◌}

@@ -1,3 +1,4 @@
+-- A law for each exit.
 use Rattle.types.proofs.Sizes as sizes
 use Rattle.types.proofs.size_word.Goals as goal
 

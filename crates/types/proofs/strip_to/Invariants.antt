@@ -1,3 +1,4 @@
+-- Both loops: what is left of the row reached is what is left of row n; the inner one has its place. Its number is the measure.
 use Prim.Native.Nat.{◌*◌, ◌-◌, ◌≤◌}
 use mathlib.Core.Path.{◌≡◌}
 use Rattle.types.proofs.Query as query

@@ -1,3 +1,4 @@
+-- The loop: the words that were passed are those of the fixed rows.
 use Prim.Native.Nat.{ℕ, ◌≤◌, ◌<◌, ◌-◌}
 use mathlib.Core.Path.{◌≡◌}
 use lib.ListN.{get_or}

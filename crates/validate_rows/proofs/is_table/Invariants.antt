@@ -1,3 +1,4 @@
+-- The loop: the rows that were passed obey the rules and are in the index. The measure is the rows left.
 use Rattle.types.proofs.Rows as table_rows
 use Rattle.row_index.specs.Index.{RowsIndexed}
 use Prim.Native.Nat.{◌≤◌, ◌-◌}

@@ -1,3 +1,4 @@
+-- The places of the stores count by `suc`.
 use native.Mathlib.Numerals.{towards_suc}
 use native.Mathlib.Omega.{arith}
 use lib.ListN.{length-set}

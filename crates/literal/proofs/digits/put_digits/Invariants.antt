@@ -1,3 +1,4 @@
+-- The loop: the worth of the first bytes is written. `refl` is the test of the whole constant, computed.
 use Prim.Native.Nat.{◌-◌}
 use Rattle.literal.specs.Digits.{bytes}
 use Rattle.literal.proofs.Digit as laws
