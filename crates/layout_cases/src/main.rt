@@ -2,12 +2,14 @@
 // of commands (tools/layout_cases.py).
 #![tactic(auto)]
 
-ghost use Rattle.std.specs.Prelude.{◌≡◌, ◌<◌, ◌≤◌, length};
+ghost use Rattle.std.specs.Prelude.{◌≡◌, ◌<◌, ◌≤◌, length, IfOk, OnErr};
 
 use layout::Layout;
-use libc::STDIN_FILENO;
 use names::Repeated;
+use program_support::input::read_full;
 use program_support::print::{BUFFER, flush, put_refused, put_text};
+use std::io;
+use std::io::Read;
 
 // Room for a module and more.
 const ROOM: usize = 70000;
@@ -49,22 +51,22 @@ fn wide(b: u8) -> usize
 }
 
 // A number of four bytes, no larger than the room.
-fn read_number() -> usize
-    ensures { result ≤ 70000 }
+fn read_number(input: &mut impl Read) -> io::Result<usize>
+    ensures { IfOk result (λ n. n ≤ 70000) }
 {
     let mut b = [0u8; 4];
-    io::read_full(STDIN_FILENO, &mut b);
+    read_full(input, &mut b)?;
     let n = wide(b[0]) + 256 * wide(b[1]) + 65536 * wide(b[2]);
     if ROOM < n {
-        return ROOM;
+        return Ok(ROOM);
     }
-    n
+    Ok(n)
 }
 
-fn read_byte() -> u8 {
+fn read_byte(input: &mut impl Read) -> io::Result<u8> {
     let mut b = [0u8; 1];
-    io::read_full(STDIN_FILENO, &mut b);
-    b[0]
+    read_full(input, &mut b)?;
+    Ok(b[0])
 }
 
 // After a command: the length of the base, and the verdict.
@@ -75,42 +77,43 @@ struct Step {
 }
 
 // A new base.
-fn replace(base: &mut [u8]) -> Step
+fn replace(input: &mut impl Read, base: &mut [u8]) -> io::Result<Step>
     requires { length base.old ≡ 70000 }
-    ensures { result.n ≤ 70000 }
+    ensures { IfOk result (λ r. r.n ≤ 70000) }
 {
-    let n = read_number();
-    io::read_full(STDIN_FILENO, &mut base[..n]);
+    let n = read_number(input)?;
+    read_full(input, &mut base[..n])?;
     let verdict = judge(base, n);
-    Step { n, verdict }
+    Ok(Step { n, verdict })
 }
 
 // The base cut.
-fn cut(base: &[u8], n: usize) -> Step
+fn cut(input: &mut impl Read, base: &[u8], n: usize) -> io::Result<Step>
     requires { (length base.now ≡ 70000) × (n ≤ 70000) }
-    ensures { result.n ≤ 70000 }
+    ensures { IfOk result (λ r. r.n ≤ 70000) }
 {
-    let end = read_number();
+    let end = read_number(input)?;
     let verdict = judge(base, end);
-    Step { n, verdict }
+    Ok(Step { n, verdict })
 }
 
 // The base with a byte changed.
-fn change(base: &mut [u8], n: usize) -> Step
+fn change(input: &mut impl Read, base: &mut [u8], n: usize) -> io::Result<Step>
     requires { (length base.old ≡ 70000) × (n ≤ 70000) }
-    ensures { result.n ≤ 70000 }
+    ensures ok { IfOk result (λ r. r.n ≤ 70000) }
+    ensures err { OnErr result (base.new ≡ base.old) }
 {
-    let place = read_number();
-    let value = read_byte();
+    let place = read_number(input)?;
+    let value = read_byte(input)?;
     if ROOM <= place {
         let verdict = Verdict::NotAsked;
-        return Step { n, verdict };
+        return Ok(Step { n, verdict });
     }
     let old = base[place];
     base[place] = value;
     let verdict = judge(base, n);
     base[place] = old;
-    Step { n, verdict }
+    Ok(Step { n, verdict })
 }
 
 fn clear(bytes: &mut [u8]) {
@@ -122,43 +125,50 @@ fn clear(bytes: &mut [u8]) {
 }
 
 // The base made longer, as far as there is room.
-fn lengthen(base: &mut [u8], n: usize) -> Step
+fn lengthen(input: &mut impl Read, base: &mut [u8], n: usize) -> io::Result<Step>
     requires { (length base.old ≡ 70000) × (n ≤ 70000) }
-    ensures { result.n ≤ 70000 }
+    ensures ok { IfOk result (λ r. r.n ≤ 70000) }
+    ensures err { OnErr result (base.new ≡ base.old) }
 {
-    let more = read_number();
+    let more = read_number(input)?;
     if ROOM - n < more {
         let verdict = Verdict::NotAsked;
-        return Step { n, verdict };
+        return Ok(Step { n, verdict });
     }
     let end = n + more;
     clear(&mut base[n..end]);
     let verdict = judge(base, end);
-    Step { n: end, verdict }
+    Ok(Step { n: end, verdict })
 }
 
 // One command.
-fn run(command: u8, base: &mut [u8], n: usize) -> Step
+fn run(input: &mut impl Read, command: u8, base: &mut [u8], n: usize) -> io::Result<Step>
     requires { (length base.old ≡ 70000) × (n ≤ 70000) }
-    ensures { result.n ≤ 70000 }
+    ensures { IfOk result (λ r. r.n ≤ 70000) }
 {
     match command {
-        b'M' => replace(base),
-        b'T' => cut(base, n),
-        b'B' => change(base, n),
-        _ => lengthen(base, n),
+        b'M' => replace(input, base),
+        b'T' => cut(input, base, n),
+        b'B' => change(input, base, n),
+        _ => lengthen(input, base, n),
     }
 }
 
-fn put_verdict(buffer: &mut [u8], used: usize, verdict: Verdict) -> usize {
+fn put_verdict(
+    out: &impl Print,
+    buffer: &mut [u8],
+    used: usize,
+    verdict: Verdict,
+) -> io::Result<usize> {
     match verdict {
-        Verdict::NotAsked => used,
-        Verdict::Good => put_text(buffer, used, b"good\n"),
-        Verdict::Refused(number, place) => put_refused(buffer, used, number, place),
+        Verdict::NotAsked => Ok(used),
+        Verdict::Good => put_text(out, buffer, used, b"good\n"),
+        Verdict::Refused(number, place) => put_refused(out, buffer, used, number, place),
     }
 }
 
-fn main() {
+fn main(rt: HostRuntime) -> io::Result<()> {
+    let mut input = rt.stdin();
     let mut base = [0u8; ROOM];
     let mut buffer = [0u8; BUFFER];
     let mut n: usize = 0;
@@ -166,14 +176,14 @@ fn main() {
     let mut left: u32 = 1000000;
     while 0 < left {
         let mut command = [0u8; 1];
-        if io::read_full(STDIN_FILENO, &mut command) < 1 {
+        if read_full(&mut input, &mut command)? < 1 {
             break;
         }
-        let step = run(command[0], &mut base, n);
+        let step = run(&mut input, command[0], &mut base, n)?;
         let verdict = step.verdict;
-        held = put_verdict(&mut buffer, held, verdict);
+        held = put_verdict(&rt, &mut buffer, held, verdict)?;
         n = step.n;
         left -= 1;
     }
-    flush(&buffer, held);
+    flush(&rt, &buffer, held)
 }

@@ -1,15 +1,18 @@
 -- The lines of the bases and the answer to a text, put together. Assumes nothing.
-use Prim.Native.Nat.{ℕ, ◌+◌, ◌≤◌}
+use Prim.Native.Nat.{ℕ, zero, suc, ◌+◌, ◌≤◌, ◌<◌}
 use mathlib.Core.Path.{◌≡◌, refl, sym, ◌∙◌, ap, subst}
-use mathlib.Core.List.{List, [], ◌∷◌}
+use mathlib.Core.List.{List, [], ◌∷◌, ◌++◌}
 use mathlib.Core.Option.{Option}
+use mathlib.Core.Bool.{Bool, true, false}
+use lib.Dec.{ltb}
+use borrow.Author.Tests.{ltb-true, ltb-false}
 use native.Mathlib.Numerals.{add-one}
 use native.Mathlib.Omega.{arith}
 use Rattle.literal.specs.Literal.{from_str_radix, parsed_value}
 use Rattle.literal.specs.declared.Parsed.{Parsed}
 use Rattle.literal.specs.declared.Parsed.TheVariants.{Value, Invalid}
-use Rattle.program_support.specs.Buffer.{a_text, Put, PutNumber, PutAll}
-use Rattle.program_support.proofs.BufferLaws.{then_all}
+use Rattle.program_support.specs.Buffer.{a_text, Put, PutNumber, PutAll, PutSome}
+use Rattle.program_support.proofs.BufferLaws.{then_all, some_none, some_number, some_then, some_first}
 use Rattle.literal_cases.specs.Lines.{byte_value, byte_is, byte_alone, bytes_alone, base_line, base_lines, answer_line}
 
 -- ---- a byte alone
@@ -45,6 +48,27 @@ module _ (base : ℕ) (b : List ℕ) (u : ℕ) where
   unfolding PutAll base_line
   base_all b₁ u₁ b₂ u₂ b₃ u₃ p q t = (b₁, u₁, p, then_all (bytes_alone base 256) (a_text (10 ∷ []) ∷ []) b₁ u₁ b₂ u₂ b₃ u₃ q (b₃, u₃, t, (refl, refl)))
 
+  -- Not all of them were put
+  pub bytes_some : (n byte : ℕ) (b₁ : List ℕ) (u₁ : ℕ) (b₂ : List ℕ) → byte < n → PutAll (bytes_alone base byte) b u b₁ u₁ → PutSome (byte_alone base byte) b₁ u₁ b₂ → PutSome (bytes_alone base n) b u b₂
+  unfolding bytes_alone
+  bytes_some zero byte b₁ u₁ b₂ p h s = absurd (omega arith)
+  bytes_some (suc n) byte b₁ u₁ b₂ p h s = go (ltb byte n) refl (λ q. bytes_some n byte b₁ u₁ b₂ q h s)
+    where
+      go : (t : Bool) → ltb byte n ≡ t → (byte < n → PutSome (bytes_alone base n) b u b₂) → PutSome (bytes_alone base n ++ byte_alone base n) b u b₂
+      go true e before = some_first (bytes_alone base n) (byte_alone base n) b u b₂ (before (ltb-true byte n e))
+      go false e before =
+          let q : n ≤ byte = ltb-false byte n e in
+          let same : byte ≡ n = omega arith in
+          subst (λ (m : ℕ). PutSome (bytes_alone base m ++ byte_alone base m) b u b₂) same (some_then (bytes_alone base byte) (byte_alone base byte) b u b₁ u₁ b₂ h s)
+
+  pub base_bytes : (b₁ : List ℕ) (u₁ : ℕ) (b₂ : List ℕ) → PutNumber b u base b₁ u₁ → PutSome (bytes_alone base 256) b₁ u₁ b₂ → PutSome (base_line base) b u b₂
+  unfolding base_line
+  base_bytes b₁ u₁ b₂ p s = some_number base _ b u b₁ u₁ b₂ p (some_first (bytes_alone base 256) (a_text (10 ∷ []) ∷ []) b₁ u₁ b₂ s)
+
+  pub base_end : (b₁ : List ℕ) (u₁ : ℕ) (b₂ : List ℕ) (u₂ : ℕ) (b₃ : List ℕ) → PutNumber b u base b₁ u₁ → PutAll (bytes_alone base 256) b₁ u₁ b₂ u₂ → b₃ ≡ b₂ → PutSome (base_line base) b u b₃
+  unfolding base_line
+  base_end b₁ u₁ b₂ u₂ b₃ p h e = some_number base _ b u b₁ u₁ b₃ p (some_then (bytes_alone base 256) (a_text (10 ∷ []) ∷ []) b₁ u₁ b₂ u₂ b₃ h (some_none _ b₂ u₂ b₃ e))
+
 -- ---- all bases
 module _ (b : List ℕ) (u : ℕ) where
   pub bases_none : PutAll (base_lines 0) b u b u
@@ -60,6 +84,18 @@ module _ (b : List ℕ) (u : ℕ) where
       let e : base ≡ 39 = omega arith in
       subst (λ (n : ℕ). PutAll (base_lines n) b u b₁ u₁) e h
 
+  pub bases_some : (n base : ℕ) (b₁ : List ℕ) (u₁ : ℕ) (b₂ : List ℕ) → base < n → PutAll (base_lines base) b u b₁ u₁ → PutSome (base_line base) b₁ u₁ b₂ → PutSome (base_lines n) b u b₂
+  unfolding base_lines
+  bases_some zero base b₁ u₁ b₂ p h s = absurd (omega arith)
+  bases_some (suc n) base b₁ u₁ b₂ p h s = go (ltb base n) refl (λ q. bases_some n base b₁ u₁ b₂ q h s)
+    where
+      go : (t : Bool) → ltb base n ≡ t → (base < n → PutSome (base_lines n) b u b₂) → PutSome (base_lines n ++ base_line n) b u b₂
+      go true e before = some_first (base_lines n) (base_line n) b u b₂ (before (ltb-true base n e))
+      go false e before =
+          let q : n ≤ base = ltb-false base n e in
+          let same : base ≡ n = omega arith in
+          subst (λ (m : ℕ). PutSome (base_lines m ++ base_line m) b u b₂) same (some_then (base_lines base) (base_line base) b u b₁ u₁ b₂ h s)
+
 -- ---- the answer to a text
 module _ (parsed : Parsed) (b : List ℕ) (u : ℕ) (b₁ : List ℕ) (u₁ : ℕ) where
   pub answer_value : (value : ℕ) (b₂ : List ℕ) (u₂ : ℕ) → parsed ≡ Value value → PutNumber b u value b₁ u₁ → Put b₁ u₁ (10 ∷ []) b₂ u₂ → PutAll (answer_line (parsed_value parsed)) b u b₂ u₂
@@ -69,3 +105,7 @@ module _ (parsed : Parsed) (b : List ℕ) (u : ℕ) (b₁ : List ℕ) (u₁ : �
   pub answer_invalid : parsed ≡ Invalid → Put b u (105 ∷ 110 ∷ 118 ∷ 97 ∷ 108 ∷ 105 ∷ 100 ∷ 10 ∷ []) b₁ u₁ → PutAll (answer_line (parsed_value parsed)) b u b₁ u₁
   unfolding PutAll
   answer_invalid e p = subst (λ (x : Parsed). PutAll (answer_line (parsed_value x)) b u b₁ u₁) (sym e) (b₁, u₁, p, (refl, refl))
+
+  -- The end of its line was not put
+  pub answer_some : (value : ℕ) (b₂ : List ℕ) → parsed ≡ Value value → PutNumber b u value b₁ u₁ → b₂ ≡ b₁ → PutSome (answer_line (parsed_value parsed)) b u b₂
+  answer_some value b₂ e p q = subst (λ (x : Parsed). PutSome (answer_line (parsed_value x)) b u b₂) (sym e) (some_number value _ b u b₁ u₁ b₂ p (some_none _ b₁ u₁ b₂ q))

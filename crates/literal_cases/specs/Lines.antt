@@ -1,7 +1,7 @@
 -- What the program prints: a line for each base, a line for each case.
 use Rattle.std.specs.Prelude.{ℕ, zero, suc, ◌+◌, List, [], ◌∷◌, ◌++◌, cond, ltb, length, take, drop}
 use Rattle.std.proofs.Math.Option.{Option, none, some}
-use Rattle.bytes.specs.Bytes.{index_of}
+use Rattle.literal_cases.specs.Places.{index_of}
 use Rattle.literal.specs.Literal.{from_str_radix}
 use Rattle.program_support.specs.Buffer.{Piece, a_text, a_number}
 use Rattle.literal_cases.specs.Numbers.{decimal}

@@ -4,9 +4,10 @@
 
 ghost use Rattle.std.specs.Prelude.{◌≡◌, replicate};
 
-use libc::STDIN_FILENO;
+use program_support::input::read_full;
 use program_support::loans;
 use program_support::print::{flush, print_refused};
+use std::io;
 use type_check::Answer;
 
 // Room for the longest text.
@@ -14,6 +15,7 @@ const ROOM: usize = text::LONGEST as usize;
 
 // Prints the messages of a module that is checked, with this room for their text.
 fn print_messages(
+    out: &impl Print,
     input: &[u8],
     row_count: u32,
     rows: &[u32],
@@ -21,7 +23,7 @@ fn print_messages(
     errors: &[u32],
     work: &mut [u32],
     text: &mut [u8],
-) {
+) -> io::Result<()> {
     let answer = error_messages::messages(
         input,
         rows,
@@ -33,8 +35,8 @@ fn print_messages(
         text,
     );
     match answer {
-        error_messages::Answer::Refused { number, place } => print_refused(number, place),
-        error_messages::Answer::Written(length) => flush(text, length),
+        error_messages::Answer::Refused { number, place } => print_refused(out, number, place),
+        error_messages::Answer::Written(length) => flush(out, text, length),
     }
 }
 
@@ -46,10 +48,18 @@ fn blank_text() -> [u8; ROOM]
 }
 
 // Lends the working words and the text.
-fn print_accepted(input: &[u8], row_count: u32, rows: &[u32], error_count: usize, errors: &[u32]) {
+fn print_accepted(
+    out: &impl Print,
+    input: &[u8],
+    row_count: u32,
+    rows: &[u32],
+    error_count: usize,
+    errors: &[u32],
+) -> io::Result<()> {
     let mut work = [0u32; loans::ROW_COUNT];
     let mut text = blank_text();
     print_messages(
+        out,
         input,
         row_count,
         rows,
@@ -57,16 +67,16 @@ fn print_accepted(input: &[u8], row_count: u32, rows: &[u32], error_count: usize
         errors,
         &mut work,
         &mut text,
-    );
+    )
 }
 
-fn main() {
+fn main(rt: HostRuntime) -> io::Result<()> {
     let mut input = [0u8; loans::INPUT];
     let mut output = [0u8; loans::OUTPUT];
     let mut rows = [0u32; loans::ROWS];
     let mut errors = [0u32; loans::ERRORS];
     let mut work = [0u32; loans::WORK];
-    let n = io::read_full(STDIN_FILENO, &mut input);
+    let n = read_full(&mut rt.stdin(), &mut input)?;
     let answer = type_check::type_check_module(
         &input[..n],
         &mut output,
@@ -75,9 +85,9 @@ fn main() {
         &mut work,
     );
     match answer {
-        Answer::Refused { number, place } => print_refused(number, place),
+        Answer::Refused { number, place } => print_refused(&rt, number, place),
         Answer::Accepted { rows: r, errors: e } => {
-            print_accepted(&input[..n], r, &rows, e, &errors)
+            print_accepted(&rt, &input[..n], r, &rows, e, &errors)
         }
     }
 }

@@ -1,2 +1,4 @@
 pub mod SlotLaws
 pub mod BufferLaws
+pub mod DigitLaws
+pub mod InputLaws

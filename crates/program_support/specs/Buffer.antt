@@ -1,6 +1,6 @@
 -- A buffer, the first bytes of which are held for the next write.
 use Rattle.std.specs.Prelude.{ℕ, ◌+◌, ◌≡◌, List, [], ◌∷◌, ◌++◌, leb, length, take, drop}
-use Rattle.io.specs.Digits.{last_digits, IsDigitCount}
+use Rattle.program_support.specs.Digits.{last_digits, IsDigitCount}
 use Rattle.shape.specs.Shape.{pick}
 
 -- What a buffer with so much room holds after a text: what it held, and the text; the text alone, where both do not fit; nothing, where the text does not
@@ -41,3 +41,11 @@ refused_line n place =
 unfoldable pub word_pieces : List ℕ → List Piece
 word_pieces [] = []
 word_pieces (w ∷ ws) = a_text (32 ∷ []) ∷ a_number w ∷ word_pieces ws
+
+-- The first of them were, and the one that came next was not: it could not be written
+pub record PutSome (ps : List Piece) (buffer : List ℕ) (used : ℕ) (buffer' : List ℕ) : Type 0 where
+  pub done : List Piece
+  pub left : List Piece
+  pub held : ℕ
+  pub are : done ++ left ≡ ps
+  pub put : PutAll done buffer used buffer' held

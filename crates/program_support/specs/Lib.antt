@@ -1,2 +1,4 @@
 pub mod Slots
+pub mod Digits
+pub mod Input
 pub mod Buffer

@@ -11,13 +11,15 @@ mod messages;
 mod output;
 mod row_numbers;
 
-ghost use Rattle.std.specs.Prelude.{◌+◌, ◌<◌, ◌≤◌, length};
+ghost use Rattle.std.specs.Prelude.{◌+◌, ◌<◌, ◌≤◌, length, IfOk};
 
 use judge::{Verdict, judge};
-use libc::STDIN_FILENO;
+use program_support::input::read_full;
 use program_support::loans;
 use program_support::print::{BUFFER, flush, put_text, put_word};
 use record_bytes::length_at;
+use std::io;
+use std::io::Read;
 
 // No more cases than this are run, and no more differences are printed.
 const CASES: u32 = 1000000;
@@ -26,21 +28,22 @@ const SHOWN: u32 = 20;
 
 // Reads the next case: how many bytes it has. 0 is the end; a case that is longer than the room or than the input is
 // cut.
-fn read_case(case: &mut [u8]) -> usize
+fn read_case(input: &mut impl Read, case: &mut [u8]) -> io::Result<usize>
     requires { 4 ≤ length case.old }
-    ensures { result ≤ length case.new }
+    ensures { IfOk result (λ n. n ≤ length case.new) }
 {
-    if io::read_full(STDIN_FILENO, &mut case[0..4]) < 4 {
-        return 0;
+    if read_full(input, &mut case[0..4])? < 4 {
+        return Ok(0);
     }
     let total = length_at(case, 0);
     if total < 4 {
-        return 4;
+        return Ok(4);
     }
     if case.len() < total {
-        return 4;
+        return Ok(4);
     }
-    4 + io::read_full(STDIN_FILENO, &mut case[4..total])
+    let n = read_full(input, &mut case[4..total])?;
+    Ok(4 + n)
 }
 
 // How many cases are accepted and refused as expected, and how many differ.
@@ -76,35 +79,43 @@ fn count(tally: Tally, k: u32, verdict: Verdict) -> Tally
 }
 
 // `differ 7`
-fn put_case(buffer: &mut [u8], used: usize, k: u32) -> usize {
-    let differ = put_text(buffer, used, b"differ ");
-    let number = put_word(buffer, differ, k);
-    put_text(buffer, number, b"\n")
+fn put_case(out: &impl Print, buffer: &mut [u8], used: usize, k: u32) -> io::Result<usize> {
+    let differ = put_text(out, buffer, used, b"differ ")?;
+    let number = put_word(out, buffer, differ, k)?;
+    put_text(out, buffer, number, b"\n")
 }
 
 // The number of case k, if it is one of the first that differ.
-fn put_difference(buffer: &mut [u8], used: usize, k: u32, differ: u32, verdict: Verdict) -> usize {
+fn put_difference(
+    out: &impl Print,
+    buffer: &mut [u8],
+    used: usize,
+    k: u32,
+    differ: u32,
+    verdict: Verdict,
+) -> io::Result<usize> {
     if SHOWN <= differ {
-        return used;
+        return Ok(used);
     }
     match verdict {
-        Verdict::Differs => put_case(buffer, used, k),
-        _ => used,
+        Verdict::Differs => put_case(out, buffer, used, k),
+        _ => Ok(used),
     }
 }
 
 // `good 12 refused 3 differ 0`
-fn put_tally(buffer: &mut [u8], used: usize, tally: Tally) -> usize {
-    let good = put_text(buffer, used, b"good ");
-    let good_count = put_word(buffer, good, tally.good);
-    let refused = put_text(buffer, good_count, b" refused ");
-    let refused_count = put_word(buffer, refused, tally.refused);
-    let differ = put_text(buffer, refused_count, b" differ ");
-    let differ_count = put_word(buffer, differ, tally.differ);
-    put_text(buffer, differ_count, b"\n")
+fn put_tally(out: &impl Print, buffer: &mut [u8], used: usize, tally: Tally) -> io::Result<usize> {
+    let good = put_text(out, buffer, used, b"good ")?;
+    let good_count = put_word(out, buffer, good, tally.good)?;
+    let refused = put_text(out, buffer, good_count, b" refused ")?;
+    let refused_count = put_word(out, buffer, refused, tally.refused)?;
+    let differ = put_text(out, buffer, refused_count, b" differ ")?;
+    let differ_count = put_word(out, buffer, differ, tally.differ)?;
+    put_text(out, buffer, differ_count, b"\n")
 }
 
-fn main() {
+fn main(rt: HostRuntime) -> io::Result<()> {
+    let mut input = rt.stdin();
     let mut case = [0u8; 250000];
     let mut output = [0u8; 70000];
     let mut rows = [0u32; loans::ROWS];
@@ -119,7 +130,7 @@ fn main() {
     };
     let mut k: u32 = 0;
     while k < CASES {
-        let total = read_case(&mut case);
+        let total = read_case(&mut input, &mut case)?;
         if total == 0 {
             break;
         }
@@ -130,10 +141,10 @@ fn main() {
             &mut errors,
             &mut work,
         );
-        held = put_difference(&mut buffer, held, k, tally.differ, verdict);
+        held = put_difference(&rt, &mut buffer, held, k, tally.differ, verdict)?;
         tally = count(tally, k, verdict);
         k += 1;
     }
-    held = put_tally(&mut buffer, held, tally);
-    flush(&buffer, held);
+    held = put_tally(&rt, &mut buffer, held, tally)?;
+    flush(&rt, &buffer, held)
 }

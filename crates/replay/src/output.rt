@@ -2,7 +2,6 @@
 ghost use Rattle.std.specs.Prelude.{◌≡◌, ◌≤◌, length};
 
 use crate::expected::{number_of, word_of};
-use check::same;
 use program_support::slots::{next_record, slot_place};
 use record_bytes::{FIELD, word};
 
@@ -23,17 +22,17 @@ fn record_matches(input: &[u8], output: &[u8], row: u32) -> bool
 {
     let place = slot_place(input, 0);
     if input.len() - place < FIELD {
-        return same(input, output);
+        return input == output;
     }
     if word(output, place) != row {
         return false;
     }
-    if !same(&input[0..place], &output[0..place]) {
+    if &input[0..place] != &output[0..place] {
         return false;
     }
     let rest = place + FIELD;
     let end = input.len();
-    same(&input[rest..end], &output[rest..end])
+    &input[rest..end] == &output[rest..end]
 }
 
 // Whether the output is the input with its slots filled with the rows of the case.

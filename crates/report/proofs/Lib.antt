@@ -1,2 +1,1 @@
-pub mod LocalArray
 pub mod LineLaws

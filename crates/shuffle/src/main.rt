@@ -5,8 +5,12 @@
 ghost use Rattle.std.specs.Prelude.{◌≤◌, length};
 
 use layout::MAX_BYTES;
-use libc::{STDERR_FILENO, STDIN_FILENO, STDOUT_FILENO};
+use program_support::input::read_full;
+use program_support::print::print_refused;
 use reorder::{Answer, MODULUS};
+use std::env::Env;
+use std::io;
+use std::io::Read;
 
 // A byte more than a module may have, so that a longer one is turned back.
 const ROOM: usize = MAX_BYTES + 1;
@@ -38,43 +42,52 @@ fn read_number(digits: &[u8]) -> Number {
     Number::Is(number)
 }
 
-fn print_refused(number: u32, place: usize) {
-    io::write_all(STDERR_FILENO, b"refused ");
-    io::print_decimal(STDERR_FILENO, number as u64);
-    io::write_all(STDERR_FILENO, b" at ");
-    io::print_decimal(STDERR_FILENO, place as u64);
-    io::write_all(STDERR_FILENO, b"\n");
+// The number that the program is run with.
+fn number_argument(rt: &impl Env) -> Number {
+    let mut digits = [0u8; 20];
+    match rt.arg(1, &mut digits) {
+        Ok(n) => read_number(&digits[..n]),
+        Err(_) => Number::None,
+    }
 }
 
-// Writes the module in its new order, or says why it is turned back.
-fn write_shuffled(input: &[u8], number: usize, output: &mut [u8])
+// Writes the module in its new order, or says on `err` why it is turned back.
+fn write_shuffled(
+    out: &impl Print,
+    err: &impl Print,
+    input: &[u8],
+    number: usize,
+    output: &mut [u8],
+) -> io::Result<()>
     requires { length input.now ≤ length output.old }
 {
     let answer = reorder::shuffle(input, number, output);
     match answer {
         Answer::Written => {
             let n = input.len();
-            io::write_all(STDOUT_FILENO, &output[..n]);
+            out.write_all(&output[..n])
         }
-        Answer::Refused { number, place } => print_refused(number, place),
+        Answer::Refused { number, place } => print_refused(err, number, place),
     }
 }
 
-fn shuffle_input(number: usize) {
+fn shuffle_input(
+    stdin: &mut impl Read,
+    out: &impl Print,
+    err: &impl Print,
+    number: usize,
+) -> io::Result<()> {
     let mut input = [0u8; ROOM];
     let mut output = [0u8; ROOM];
-    let n = io::read_full(STDIN_FILENO, &mut input);
-    write_shuffled(&input[..n], number, &mut output);
+    let n = read_full(stdin, &mut input)?;
+    write_shuffled(out, err, &input[..n], number, &mut output)
 }
 
-fn main() {
-    let mut digits = [0u8; 20];
-    let n = os::arg(1, &mut digits);
-    let number = read_number(&digits[..n]);
+fn main(rt: HostRuntime) -> io::Result<()> {
+    let err = rt.stderr();
+    let number = number_argument(&rt);
     match number {
-        Number::Is(seed) => shuffle_input(seed),
-        Number::None => {
-            io::write_all(STDERR_FILENO, b"usage: shuffle NUMBER < module\n");
-        }
+        Number::Is(seed) => shuffle_input(&mut rt.stdin(), &rt, &err, seed),
+        Number::None => err.write_all(b"usage: shuffle NUMBER < module\n"),
     }
 }

@@ -1,0 +1,44 @@
+use Rattle.std.proofs.Common.{◌≡◌, ℕ, zero, suc, ◌+◌, ◌-◌, ◌/◌, ◌%◌, ◌≤◌, ◌<◌, List, [], ◌∷◌, ◌++◌, length, take, drop, refl, sym, ap, subst, ◌∙◌, arith}
+use lib.ListN.{set, length-set}
+use lib.Seq.{slice, length-take-le, take-set-lt, drop-set-lt, append_snoc}
+use native.Mathlib.Nat.{le_of_suc-le-suc, not-suc-le-zero}
+use native.Mathlib.Numerals.{sub-one}
+use borrow.Author.Tests.{lt-ltb}
+use Rattle.program_support.specs.Digits.{digit_ascii, last_digits}
+use Rattle.program_support.proofs.digits.write_digits.Goals as goal
+
+-- After a store at j, the list from j on begins with what was stored
+drop-set : (t : List ℕ) (j g : ℕ) → j < length t → drop j (set t j g) ≡ g ∷ drop (suc j) t
+drop-set [] j g h = absurd (not-suc-le-zero h)
+drop-set (x ∷ xs) zero g h = refl
+drop-set (x ∷ xs) (suc j) g h = drop-set xs j g (le_of_suc-le-suc h)
+
+-- A turn moves the last of the digits that are still to write to the front of those that are written
+digits_step : (b i k rest g : ℕ) (out : List ℕ) → 0 < i → i ≤ k → k ≤ length out → g ≡ digit_ascii (rest % b)
+    → last_digits b (i - 1) (rest / b) ++ slice (i - 1) k (set out (i - 1) g) ≡ last_digits b i rest ++ slice i k out
+digits_step b zero k rest g out some h room e = absurd (not-suc-le-zero some)
+digits_step b (suc j) k rest g out some h room e =
+    let todo = last_digits b j (rest / b) in
+    let done = slice (suc j) k out in
+    let within : j < length (take k out) = subst (λ (n : ℕ). j < n) (sym (length-take-le k out room)) h in
+    ap (λ (m : ℕ). last_digits b m (rest / b) ++ slice m k (set out m g)) (sub-one (suc j))
+    ∙ ap (λ (l : List ℕ). todo ++ drop j l) (take-set-lt k out j g h)
+    ∙ ap (λ (l : List ℕ). todo ++ l) (drop-set (take k out) j g within)
+    ∙ ap (λ (x : ℕ). todo ++ x ∷ done) e
+    ∙ sym (append_snoc todo (digit_ascii (rest % b)) done)
+
+-- A decimal digit is its code
+ten : (n : ℕ) → 48 + n % 10 ≡ digit_ascii (n % 10)
+ten n =
+    let small : n % 10 < 10 = omega arith in
+    simp (lt-ltb (n % 10) 10 small)
+
+pub loop-i-preserved : goal.loop-i-preserved
+loop-i-preserved c =
+    let l = c.loop-i in
+    let a = c.args in (
+      simp length-set l.invariant.0,
+      omega arith,
+      digits_step 10 l.i a.k l.rest (48 + l.rest % 10) l.out c.loop-i-test.true l.invariant.1 (omega arith) (ten l.rest) ∙ l.invariant.2,
+      drop-set-lt a.k l.out (l.i - 1) _ (omega arith) ∙ l.invariant.3,
+    )
