@@ -1,3 +1,4 @@
 pub mod Naming
 pub mod Marking
 pub mod Marks
+pub mod Before

@@ -11,13 +11,13 @@ use Rattle.shape.specs.Kinds as kinds
 use Rattle.shape.specs.Shape.{shape_of, due_in, Shaped}
 use Rattle.shape.specs.declared.Shape.{Shape}
 use Rattle.shape.specs.declared.Due.{Due}
-use Rattle.record_bytes.specs.Bytes.{word_at, half_at, head_size, Read}
+use Rattle.record_bytes.specs.Bytes.{word_at, half_at, head_size, field_size, Read}
 use Rattle.names.specs.Names.{stands, Following}
 use Rattle.layout.specs.Layout.{kind_at, start_at, stop_at}
-use Rattle.trees.specs.Record.{Records, no_records, records_at, records_with, record_with, go_on, holds_free_bytes}
+use Rattle.trees.specs.Record.{Records, no_records, records_at, records_with, record_with, go_on, field_count, holds_free_bytes}
 use Rattle.trees.proofs.Decode.{enough, records_end}
 use Rattle.names.proofs.NameLaws.{stops_at}
-use Rattle.listing.specs.Literals.{literals_in, mark_all, marked_here, children_start}
+use Rattle.listing.specs.Literals.{literals_in, mark_all, marked_here, bytes_before, children_start}
 
 -- The place of a record, if it is a literal
 abbrev pub here_in : (s : List ℕ) → (at : ℕ) → List ℕ
@@ -149,3 +149,22 @@ module _ (s : List ℕ) (at stop kind : ℕ) (r : Read (half_at s (at + 4)) 16 k
   children_some e n n-is =
       ap (λ (x : ℕ). at + 16 + 4 * x) (n-is.0 ∙ ap (λ (x : ℕ). (shape_of x).fields) r.is)
       ∙ ap (λ (b : Bool). cond b stop (start_at s at)) (sym e ∙ free_is)
+
+-- The same by the bytes before the children
+module _ (s : List ℕ) (at stop kind before : ℕ) (r : Read (half_at s (at + 4)) 16 kind) (is : before ≡ bytes_before kind) where
+  before_here : before ≡ bytes_before (kind_at s at)
+  before_here = is ∙ ap bytes_before r.is
+
+  pub none_before : before ≡ 0 → stop ≡ children_start s at stop
+  none_before z = go (holds_free_bytes (kind_at s at)) before_here
+    where
+      go : (free : Bool) → before ≡ cond free 0 (head_size + field_size * field_count (kind_at s at)) → stop ≡ cond free stop (start_at s at)
+      go true e = refl
+      go false e = absurd (omega arith)
+
+  pub some_before : (before ≡ 0 → ⊥) → at + before ≡ children_start s at stop
+  some_before n = go (holds_free_bytes (kind_at s at)) before_here
+    where
+      go : (free : Bool) → before ≡ cond free 0 (head_size + field_size * field_count (kind_at s at)) → at + before ≡ cond free stop (start_at s at)
+      go true e = absurd (n e)
+      go false e = omega arith

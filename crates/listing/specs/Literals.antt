@@ -1,8 +1,8 @@
 -- Where the integer literals of a module stand, and their digits.
-use Rattle.std.specs.Prelude.{ℕ, ◌-◌, ◌≤◌, ◌<◌, ◌≡◌, cond, List, [], ◌∷◌, ◌++◌, ◌⊎◌, eqb, length, get_or, take, drop, set}
+use Rattle.std.specs.Prelude.{ℕ, ◌+◌, ◌-◌, ◌*◌, ◌≤◌, ◌<◌, ◌≡◌, cond, List, [], ◌∷◌, ◌++◌, ◌⊎◌, eqb, length, get_or, take, drop, set}
 use Rattle.shape.specs.Kinds as kinds
-use Rattle.record_bytes.specs.Bytes.{word_at, head_size, fields_end}
-use Rattle.trees.specs.Record.{Records, no_records, record_then, records_at, holds_free_bytes}
+use Rattle.record_bytes.specs.Bytes.{word_at, head_size, field_size, fields_end}
+use Rattle.trees.specs.Record.{Records, no_records, record_then, records_at, field_count, holds_free_bytes}
 use Rattle.layout.specs.Layout.{max_depth, kind_at, start_at, stop_at}
 
 -- The places of the integer literals among some records, at any depth, in byte order
@@ -46,6 +46,10 @@ mark_all (place ∷ places) marks = mark_all places (set marks place 1)
 -- A 1 at the place of a record, if it is a literal
 abbrev pub marked_here : (s : List ℕ) → (at : ℕ) → (marks : List ℕ) → List ℕ
 marked_here s at marks = cond (eqb (kind_at s at) kinds.integer) (set marks at 1) marks
+
+-- How many bytes stand before the children in a record of a kind; free bytes are no children
+abbrev pub bytes_before : (kind : ℕ) → ℕ
+bytes_before kind = cond (holds_free_bytes kind) 0 (head_size + field_size * field_count kind)
 
 -- Where the children of a record that ends at `stop` start; free bytes are none
 abbrev pub children_start : (s : List ℕ) → (at stop : ℕ) → ℕ

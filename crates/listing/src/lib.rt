@@ -8,13 +8,13 @@ ghost use Rattle.layout.specs.Layout.{max_bytes};
 ghost use Rattle.trees.specs.Record.{records_at};
 ghost use Rattle.listing.specs.Names.{max_names, NamesFound};
 ghost use Rattle.listing.specs.Literals.{literals_in, literal_places, literal_text, IsLiteral, LiteralStands};
-ghost use Rattle.listing.specs.Literals.{Marked, mark_all, marked_here, children_start};
+ghost use Rattle.listing.specs.Literals.{Marked, mark_all, marked_here, bytes_before, children_start};
 
 use layout::MAX_DEPTH;
 use names::{FIRST_NAME, names_end, next_place};
-use record_bytes::{FIELD, FIELD_END, FIELDS_END, HEAD_END, KIND, half, length_at};
+use record_bytes::{FIELD_END, FIELDS_END, HEAD_END, KIND, half, length_at};
+use shape::kinds;
 use shape::kinds::INTEGER;
-use shape::{due_in, field_count, shape_of};
 
 // No module has so many names: each has a head of 16 bytes.
 pub const MAX_NAMES: usize = 4096;
@@ -51,20 +51,48 @@ fn mark_here(s: &[u8], at: usize, marks: &mut [u8])
     }
 }
 
+// How many bytes stand before the children in a record of a kind; 0 if free bytes follow its fields. The functions of
+// `shape` are not asked: with a second use they are no longer compiled into the walks (docs/PERFORMANCE.md).
+fn bytes_before(kind: u32) -> usize
+    ensures { result ≡ bytes_before kind }
+{
+    match kind {
+        kinds::NAME
+        | kinds::INTEGER
+        | kinds::STRING
+        | kinds::INLINE_ASSEMBLY
+        | kinds::USE_ITEM
+        | kinds::ASSEMBLY_ITEM => 0,
+        kinds::NAMED_TYPE
+        | kinds::ARRAY_TYPE
+        | kinds::IDENTIFIER
+        | kinds::BOOLEAN
+        | kinds::FIELD_ACCESS
+        | kinds::ARITHMETIC_BIN_OP
+        | kinds::COMPARISON_BIN_OP
+        | kinds::TYPE_ALIAS => FIELDS_END,
+        kinds::NAMED_TYPE..=kinds::FIELD
+        | kinds::CALL..=kinds::SIZEOF
+        | kinds::COMPOUND_FIELD
+        | kinds::BLOCK
+        | kinds::VARIABLE_DECLARATION
+        | kinds::FUNCTION_DEFINITION
+        | kinds::GLOBAL_DECLARATION
+        | kinds::PARAMETER => FIELD_END,
+        _ => HEAD_END,
+    }
+}
+
 // Where the children of the record from `at` to `stop` start: at `stop` if free bytes follow its fields.
 fn children_start(s: &[u8], at: usize, stop: usize) -> usize
     requires { (head_end at ≤ stop) × (stop ≤ length s.now) }
     ensures { result ≡ children_start s.now at stop }
 {
-    let kind = half(s, at + KIND);
-    let shape = shape_of(kind);
-    let holds = shape.holds;
-    let due = due_in(holds);
-    let free = due.free;
-    if free {
+    let before = bytes_before(half(s, at + KIND));
+    if before == 0 {
         return stop;
     }
-    at + HEAD_END + FIELD * field_count(kind)
+    at + before
 }
 
 // Marks the places of the literals among the records from `from` to `end`, so many levels deep.
