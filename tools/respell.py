@@ -22,12 +22,14 @@ MEETING = [
     ("relations/proofs/", "target_fits", "target_fits_lem"),
     ("slot_places/proofs/", "slots_at", "slots_at_lem"),
     ("slot_places/proofs/Change.antt", "field_fits", "field_fits_lem"),
+    ("type_check/proofs/Whole.antt", "bothPasses", "effect_of_both"),
 ]
 
 
 def snake(name):
     if not re.match(r"[a-z]", name):
         return name
+    name = re.sub(r"(?<=-)[A-Z]+$", lambda m: m.group().lower(), name)
     return re.sub(r"(?<=[a-zA-Z0-9])([A-Z])", lambda m: "_" + m.group(1).lower(), name).replace("-", "_")
 
 
@@ -56,7 +58,7 @@ def declared(texts):
             m = re.match(r"((?:(?:abbrev|unfoldable|pub|record|data|opaque|fact) )*)([^\s(){}:,.]+)(?=\s|$)", line)
             if m and re.match(r"[a-zA-Z]", m.group(2)):
                 found.add(m.group(2))
-            for inner in (r"\s+(?:pub )?([^\s(){}:,.]+) : ", r"\s+\| ?(?:pub )?([^\s(){}:,.]+)(?=\s)"):
+            for inner in (r"\s+(?:(?:abbrev|unfoldable|pub) )*([^\s(){}:,.]+) : ", r"\s+\| ?(?:pub )?([^\s(){}:,.]+)(?=\s)"):
                 m = re.match(inner, line)
                 if m and re.match(r"[a-z]", m.group(1)):
                     found.add(m.group(1))
@@ -65,7 +67,7 @@ def declared(texts):
 
 def table(texts):
     """The new spelling of each declared name, and no two names to one."""
-    names = declared(texts)
+    names = declared(texts) - {old for _, old, _ in MEETING if snake(old) != old}
     words = {rel: set(re.split(SEPARATORS + "+", without_comments(rel, t))) for rel, t in texts.items() if not rel.endswith(".edit")}
     meets = set()
     for rel, there in words.items():

@@ -34,8 +34,8 @@ module _ (s built_in rows : List ℕ) (count : ℕ) (byte word : ℕ) (piece : P
   from = inputs s built_in rows count
 
   -- The text of the built-in type of a name does not depend on the rows
-  abbrev builtInText : List ℕ
-  builtInText = text_of (inputs s built_in [] 0) BuiltIn 0 word
+  abbrev built_in_text : List ℕ
+  built_in_text = text_of (inputs s built_in [] 0) BuiltIn 0 word
 
   exists_as : (k : Piece) → piece ≡ k → ExistsAs from (piece_of byte) word → ExistsAs from k word
   exists_as k told h = subst (λ (x : Piece). ExistsAs from x word) (sym is ∙ told) h
@@ -104,7 +104,7 @@ module _ (s built_in rows : List ℕ) (count : ℕ) (byte word : ℕ) (piece : P
     pub name_length : piece ≡ Name → r ≡ name_text s built_in word → n ≡ capped (length (text_of from (piece_of byte) byte word))
     name_length told e = length_as Name told n (n-is ∙ ap (λ (x : List ℕ). capped (length x)) e)
 
-    pub built_in_length : piece ≡ BuiltIn → r ≡ builtInText → n ≡ capped (length (text_of from (piece_of byte) byte word))
+    pub built_in_length : piece ≡ BuiltIn → r ≡ built_in_text → n ≡ capped (length (text_of from (piece_of byte) byte word))
     built_in_length told e = length_as BuiltIn told n (n-is ∙ ap (λ (x : List ℕ). capped (length x)) e)
 
     pub literal_length : piece ≡ Literal → r ≡ literal_text s word → n ≡ capped (length (text_of from (piece_of byte) byte word))
@@ -163,7 +163,7 @@ module _ (s built_in rows : List ℕ) (count : ℕ) (byte word : ℕ) (piece : P
         pub name_fits : piece ≡ Name → r ≡ name_text s built_in word → Fits r text at
         name_fits told e = subst (λ (x : List ℕ). Fits x text at) (sym e) (fits_as Name told fits)
 
-        pub built_in_fits : piece ≡ BuiltIn → r ≡ builtInText → Fits r text at
+        pub built_in_fits : piece ≡ BuiltIn → r ≡ built_in_text → Fits r text at
         built_in_fits told e = subst (λ (x : List ℕ). Fits x text at) (sym e) (fits_as BuiltIn told fits)
 
         pub literal_fits : piece ≡ Literal → r ≡ literal_text s word → Fits r text at
@@ -186,7 +186,7 @@ module _ (s built_in rows : List ℕ) (count : ℕ) (byte word : ℕ) (piece : P
         pub name_written : piece ≡ Name → r ≡ name_text s built_in word → Written (text_of from (piece_of byte) byte word) text text' at n
         name_written told e = written_as Name told text' n (subst (λ (x : List ℕ). Written x text text' at n) e w)
 
-        pub built_in_written : piece ≡ BuiltIn → r ≡ builtInText → Written (text_of from (piece_of byte) byte word) text text' at n
+        pub built_in_written : piece ≡ BuiltIn → r ≡ built_in_text → Written (text_of from (piece_of byte) byte word) text text' at n
         built_in_written told e = written_as BuiltIn told text' n (subst (λ (x : List ℕ). Written x text text' at n) e w)
 
         pub literal_written : piece ≡ Literal → r ≡ literal_text s word → Written (text_of from (piece_of byte) byte word) text text' at n

@@ -52,7 +52,7 @@ pub record BenchSheet : Type 0 where
   pub plus_alone : literal_errors 10 (43 ∷ []) ≡ error 23 here (plain 0) (plain 0) (plain 0) ∷ []
   pub no_digits : literal_errors 10 [] ≡ error 23 here (plain 0) (plain 0) (plain 0) ∷ []
   -- Not starred: FFFF base 16 passes, -7 gives 23
-  pub upper_F_f_f_f : literal_errors 16 (70 ∷ 70 ∷ 70 ∷ 70 ∷ []) ≡ []
+  pub upper_ffff : literal_errors 16 (70 ∷ 70 ∷ 70 ∷ 70 ∷ []) ≡ []
   pub minus_7 : literal_errors 10 (45 ∷ 55 ∷ []) ≡ error 23 here (plain 0) (plain 0) (plain 0) ∷ []
   -- Transparent alias of u16 to i16: 15. Distinct alias: castable
   pub transparent_alias : cast_errors (alias u16 5) ≡ error 15 here (row (alias u16 5)) (row i16) (plain 0) ∷ []

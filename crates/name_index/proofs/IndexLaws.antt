@@ -12,7 +12,7 @@ use Rattle.record_bytes.specs.Bytes.{word_at}
 use Rattle.names.specs.Names.{NamesEnd, name_bytes, same_bytes, is_among, name_refusal, name_test, Following}
 use Rattle.name_index.specs.NameIndex.{hashes, indexed, hash_of, Hashed, Standing, Chained, Bucket, NamesIndexed, HasNames, Looked}
 use Rattle.names.specs.declared.Repeated.TheVariants.{Nowhere, At}
-use Rattle.names.proofs.NameLaws.{passed_start, passed_on, stops_at, among_append, same_true, Differing, differ_start, differ_done, differ_hit, differ-on}
+use Rattle.names.proofs.NameLaws.{passed_start, passed_on, stops_at, among_append, same_true, Differing, differ_start, differ_done, differ_hit, differ_on}
 
 -- A search has come to the name at v, or to 0: the text is one of the names if it is one of those that are left
 pub record Rest (s index t : List ℕ) (v : ℕ) (whole : Bool) : Type 0 where
@@ -251,11 +251,11 @@ module _ (s : List ℕ) (end at : ℕ) (index : List ℕ) (k : Indexing s end at
             differs t e false g = g
 
         pub index_on : b ≡ false → Indexing s end next (set (set index (hashes + at / 16) (get_or index h 0)) h at)
-        unfolding differ-on passed_on
+        unfolding differ_on passed_on
         index_on p =
             record {
               count = k.count + 1;
-              differ = differ-on s end at k.count next k.differ f d (told ∙ p);
+              differ = differ_on s end at k.count next k.differ f d (told ∙ p);
               long = simp length-set k.long;
               has = record { bucket = λ j l. go j l (eqb j h) refl };
             }

@@ -295,9 +295,9 @@ module _ (s : List ℕ) (end at count next : ℕ) (k : Differing s end at count)
     unfolding repeat_in
     differ_hit e = ap name_refusal (sym (here_next ∙ simp e))
 
-    unfoldable pub differ-on : is_among (name_bytes s at) (map (name_bytes s) k.passed.before) ≡ false → Differing s end next (count + 1)
+    unfoldable pub differ_on : is_among (name_bytes s at) (map (name_bytes s) k.passed.before) ≡ false → Differing s end next (count + 1)
     unfolding repeat_in passed_on
-    differ-on e =
+    differ_on e =
         record {
           passed = passed_on s end at count next k.passed f d;
           rest = here_next ∙ rw (map-append (name_bytes s) k.passed.before (at ∷ [])) (simp e);
@@ -319,7 +319,7 @@ module _ (s : List ℕ) (end at count next : ℕ) (k : Differing s end at count)
         where
           go : (b : Bool) → is_among (name_bytes s at) (map (name_bytes s) k.passed.before) ≡ b → Differing s end next (count + 1)
           go true e = absurd (let z = number_old s end at count next k.passed f (name_bytes s at) d e in let y = number_here in omega arith)
-          go false e = differ-on e
+          go false e = differ_on e
 
 pub same_true : (a b : List ℕ) → same_bytes a b ≡ true → a ≡ b
 unfolding same_bytes

@@ -73,12 +73,12 @@ module _ (input : List ℕ) (good : layout_of input ≡ Good) where
   abbrev start : ModuleContext
   start = empty_context (built_ins_of input)
 
-  abbrev bothPasses : List Item → Effect
-  bothPasses trees =
+  abbrev effect_of_both : List Item → Effect
+  effect_of_both trees =
       declarations_of trees (length input - from) start
       then visiting true (each (item_slots (declare_all start trees)) trees) (each (item_errors (declare_all start trees)) trees) (length input - from)
 
-  trees_effect : bothPasses (trees_at input) ≡ module_effect input
+  trees_effect : effect_of_both (trees_at input) ≡ module_effect input
   unfolding module_errors types_met
   trees_effect =
       let same = same_module input good in
@@ -91,8 +91,8 @@ module _ (input : List ℕ) (good : layout_of input ≡ Good) where
       let steps : length input - from + (length input - from) ≡ module_steps input = omega arith in
       λ i. record { stores = stores i; errors = same.errors i; met = types i; steps = steps i }
 
-  pub module_effect_lem : bothPasses items ≡ module_effect input
-  module_effect_lem = ap bothPasses (module_items input good) ∙ trees_effect
+  pub module_effect_lem : effect_of_both items ≡ module_effect input
+  module_effect_lem = ap effect_of_both (module_items input good) ∙ trees_effect
 
   -- Whatever was done before pass 1, the whole effect was done after pass 2
   pub both_passes : {A B C : Lent} → Resolves input (built_ins input) A (context start blank) → AllDeclared input (built_ins input) items from (length input) A B

@@ -1,6 +1,4 @@
--- A walk of its MIR by hand, as its records are lent as a slice of structs. The borrow of the records is opened
--- once, before the loop, and closed once, after it. A turn calls `error_at` with a copy of the words' reference, takes one record out of the list,
--- stores the error to it, and puts it back. Of `error_at` the proof knows its contract alone.
+-- The loop: the first records are those of the words, the others as they were.
 use mathlib.Core.Path.{◌≡◌}
 use Prim.Native.Nat.{◌-◌, ◌≤◌}
 use Rattle.records.specs.Records.{records_from}

@@ -1,6 +1,3 @@
--- A walk of its MIR by hand, as its records are lent as a slice of structs. The words are lent on to
--- `check_words` as `&mut` and to `fill_records` as `&`, and come back each time (`Lending.antt`); all else goes to its callee at its own lifetime. Of
--- the callees the proof knows their contracts alone.
 use mathlib.Core.Path.{sym, ap, ◌∙◌, subst}
 use Prim.Native.Nat.{ℕ, ◌*◌, ◌≤◌}
 use lib.ListN.{length}
