@@ -2,7 +2,8 @@
 // of commands (tools/layout_cases.py).
 #![tactic(auto)]
 
-ghost use Rattle.std.specs.Prelude.{◌≡◌, ◌<◌, ◌≤◌, length, IfOk, OnErr};
+ghost use Rattle.std.specs.Prelude.{◌≡◌, ◌≢◌, ◌<◌, ◌≤◌, length, IfOk, OnErr};
+ghost use Rattle.layout_cases.specs.Commands.{NumberRead, NumberFailed, ReplaceFailed};
 
 use layout::Layout;
 use names::Repeated;
@@ -45,14 +46,17 @@ fn judge(base: &[u8], n: usize) -> Verdict
 }
 
 fn wide(b: u8) -> usize
-    ensures { result < 256 }
+    ensures small { result < 256 }
+    ensures same { result ≡ b }
 {
     b as usize
 }
 
 // A number of four bytes, no larger than the room.
-fn read_number(input: &mut impl Read) -> io::Result<usize>
-    ensures { IfOk result (λ n. n ≤ 70000) }
+fn read_number<R: Read>(input: &mut R) -> io::Result<usize>
+    ensures ok { IfOk result (λ n. n ≤ 70000) }
+    ensures number { IfOk result (λ n. NumberRead (R.remaining input.old) (R.remaining input.new) n) }
+    ensures err { OnErr result (NumberFailed (R.remaining input.old) (R.remaining input.new)) }
 {
     let mut b = [0u8; 4];
     read_full(input, &mut b)?;
@@ -77,9 +81,10 @@ struct Step {
 }
 
 // A new base.
-fn replace(input: &mut impl Read, base: &mut [u8]) -> io::Result<Step>
+fn replace<R: Read>(input: &mut R, base: &mut [u8]) -> io::Result<Step>
     requires { length base.old ≡ 70000 }
-    ensures { IfOk result (λ r. r.n ≤ 70000) }
+    ensures ok { IfOk result (λ r. r.n ≤ 70000) }
+    ensures err { OnErr result (ReplaceFailed (R.remaining input.old) (R.remaining input.new) base.old base.new) }
 {
     let n = read_number(input)?;
     read_full(input, &mut base[..n])?;
@@ -141,10 +146,12 @@ fn lengthen(input: &mut impl Read, base: &mut [u8], n: usize) -> io::Result<Step
     Ok(Step { n: end, verdict })
 }
 
-// One command.
-fn run(input: &mut impl Read, command: u8, base: &mut [u8], n: usize) -> io::Result<Step>
+// One command. If a read fails, only M (77), a new base, may have written into the base.
+fn run<R: Read>(input: &mut R, command: u8, base: &mut [u8], n: usize) -> io::Result<Step>
     requires { (length base.old ≡ 70000) × (n ≤ 70000) }
-    ensures { IfOk result (λ r. r.n ≤ 70000) }
+    ensures ok { IfOk result (λ r. r.n ≤ 70000) }
+    ensures replace_err { OnErr result (command ≡ 77 → ReplaceFailed (R.remaining input.old) (R.remaining input.new) base.old base.new) }
+    ensures other_err { OnErr result (command ≢ 77 → base.new ≡ base.old) }
 {
     match command {
         b'M' => replace(input, base),

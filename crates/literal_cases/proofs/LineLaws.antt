@@ -2,7 +2,7 @@
 use Prim.Native.Nat.{ℕ, zero, suc, ◌+◌, ◌≤◌, ◌<◌}
 use mathlib.Core.Path.{◌≡◌, refl, sym, ◌∙◌, ap, subst}
 use mathlib.Core.List.{List, [], ◌∷◌, ◌++◌}
-use mathlib.Core.Option.{Option}
+use mathlib.Core.Option.{Option, none, some}
 use mathlib.Core.Bool.{Bool, true, false}
 use lib.Dec.{ltb}
 use borrow.Author.Tests.{ltb-true, ltb-false}
@@ -61,13 +61,18 @@ module _ (base : ℕ) (b : List ℕ) (u : ℕ) where
           let same : byte ≡ n = omega arith in
           subst (λ (m : ℕ). PutSome (bytes_alone base m ++ byte_alone base m) b u b₂) same (some_then (bytes_alone base byte) (byte_alone base byte) b u b₁ u₁ b₂ h s)
 
+  -- The base, its bytes, or the end of its line were not
+  pub base_number : (b₁ : List ℕ) → b₁ ≡ b → PutSome (base_line base) b u b₁
+  unfolding base_line
+  base_number b₁ e = some_none _ _ b u b₁ e
+
   pub base_bytes : (b₁ : List ℕ) (u₁ : ℕ) (b₂ : List ℕ) → PutNumber b u base b₁ u₁ → PutSome (bytes_alone base 256) b₁ u₁ b₂ → PutSome (base_line base) b u b₂
   unfolding base_line
   base_bytes b₁ u₁ b₂ p s = some_number base _ b u b₁ u₁ b₂ p (some_first (bytes_alone base 256) (a_text (10 ∷ []) ∷ []) b₁ u₁ b₂ s)
 
   pub base_end : (b₁ : List ℕ) (u₁ : ℕ) (b₂ : List ℕ) (u₂ : ℕ) (b₃ : List ℕ) → PutNumber b u base b₁ u₁ → PutAll (bytes_alone base 256) b₁ u₁ b₂ u₂ → b₃ ≡ b₂ → PutSome (base_line base) b u b₃
   unfolding base_line
-  base_end b₁ u₁ b₂ u₂ b₃ p h e = some_number base _ b u b₁ u₁ b₃ p (some_then (bytes_alone base 256) (a_text (10 ∷ []) ∷ []) b₁ u₁ b₂ u₂ b₃ h (some_none _ b₂ u₂ b₃ e))
+  base_end b₁ u₁ b₂ u₂ b₃ p h e = some_number base _ b u b₁ u₁ b₃ p (some_then (bytes_alone base 256) (a_text (10 ∷ []) ∷ []) b₁ u₁ b₂ u₂ b₃ h (some_none _ _ b₂ u₂ b₃ e))
 
 -- ---- all bases
 module _ (b : List ℕ) (u : ℕ) where
@@ -108,4 +113,12 @@ module _ (parsed : Parsed) (b : List ℕ) (u : ℕ) (b₁ : List ℕ) (u₁ : �
 
   -- The end of its line was not put
   pub answer_some : (value : ℕ) (b₂ : List ℕ) → parsed ≡ Value value → PutNumber b u value b₁ u₁ → b₂ ≡ b₁ → PutSome (answer_line (parsed_value parsed)) b u b₂
-  answer_some value b₂ e p q = subst (λ (x : Parsed). PutSome (answer_line (parsed_value x)) b u b₂) (sym e) (some_number value _ b u b₁ u₁ b₂ p (some_none _ b₁ u₁ b₂ q))
+  answer_some value b₂ e p q = subst (λ (x : Parsed). PutSome (answer_line (parsed_value x)) b u b₂) (sym e) (some_number value _ b u b₁ u₁ b₂ p (some_none _ _ b₁ u₁ b₂ q))
+
+-- The first text of the line was not
+pub answer_none : (parsed : Parsed) (b : List ℕ) (u : ℕ) (b₁ : List ℕ) → b₁ ≡ b → PutSome (answer_line (parsed_value parsed)) b u b₁
+answer_none parsed b u b₁ e = go (parsed_value parsed)
+  where
+    go : (o : Option ℕ) → PutSome (answer_line o) b u b₁
+    go none = some_none _ _ b u b₁ e
+    go (some value) = some_none _ _ b u b₁ e

@@ -118,32 +118,40 @@ pub on_err : {T E P : Type 0} → (r : Result T E) → P → OnErr r P
 on_err (Ok x) p = tt
 on_err (Err e) p = p
 
--- None of them was
-pub some_none : (ps : List Piece) (buffer : List ℕ) (used : ℕ) (buffer' : List ℕ) → buffer' ≡ buffer → PutSome ps buffer used buffer'
+-- The first of them was not
+pub some_none : (p : Piece) (ps : List Piece) (buffer : List ℕ) (used : ℕ) (buffer' : List ℕ) → buffer' ≡ buffer → PutSome (p ∷ ps) buffer used buffer'
 unfolding PutAll
-some_none ps buffer used buffer' e = record { done = []; left = ps; held = used; are = refl; put = (e, refl) }
+some_none p ps buffer used buffer' e = record { done = []; failed = p; later = ps; held = used; are = refl; put = (e, refl) }
 
 -- Some of the others were, behind one that was, or behind all of these
 pub some_text : (t : List ℕ) (ps : List Piece) (b : List ℕ) (u : ℕ) (b₁ : List ℕ) (u₁ : ℕ) (b₂ : List ℕ) → Put b u t b₁ u₁ → PutSome ps b₁ u₁ b₂ → PutSome (a_text t ∷ ps) b u b₂
 unfolding PutAll
-some_text t ps b u b₁ u₁ b₂ p s = record { done = a_text t ∷ s.done; left = s.left; held = s.held; are = ap (λ (l : List Piece). a_text t ∷ l) s.are; put = (b₁, u₁, p, s.put) }
+some_text t ps b u b₁ u₁ b₂ p s = record { done = a_text t ∷ s.done; failed = s.failed; later = s.later; held = s.held; are = ap (λ (l : List Piece). a_text t ∷ l) s.are; put = (b₁, u₁, p, s.put) }
 
 pub some_number : (n : ℕ) (ps : List Piece) (b : List ℕ) (u : ℕ) (b₁ : List ℕ) (u₁ : ℕ) (b₂ : List ℕ) → PutNumber b u n b₁ u₁ → PutSome ps b₁ u₁ b₂ → PutSome (a_number n ∷ ps) b u b₂
 unfolding PutAll
-some_number n ps b u b₁ u₁ b₂ p s = record { done = a_number n ∷ s.done; left = s.left; held = s.held; are = ap (λ (l : List Piece). a_number n ∷ l) s.are; put = (b₁, u₁, p, s.put) }
+some_number n ps b u b₁ u₁ b₂ p s = record { done = a_number n ∷ s.done; failed = s.failed; later = s.later; held = s.held; are = ap (λ (l : List Piece). a_number n ∷ l) s.are; put = (b₁, u₁, p, s.put) }
 
 pub some_then : (ps qs : List Piece) (b : List ℕ) (u : ℕ) (b₁ : List ℕ) (u₁ : ℕ) (b₂ : List ℕ) → PutAll ps b u b₁ u₁ → PutSome qs b₁ u₁ b₂ → PutSome (ps ++ qs) b u b₂
 some_then ps qs b u b₁ u₁ b₂ h s = record {
   done = ps ++ s.done;
-  left = s.left;
+  failed = s.failed;
+  later = s.later;
   held = s.held;
-  are = append_assoc ps s.done s.left ∙ ap (λ (l : List Piece). ps ++ l) s.are;
+  are = append_assoc ps s.done (s.failed ∷ s.later) ∙ ap (λ (l : List Piece). ps ++ l) s.are;
   put = then_all ps s.done b u b₁ u₁ b₂ s.held h s.put;
 }
 
 -- And nothing of what follows
 pub some_first : (ps qs : List Piece) (b : List ℕ) (u : ℕ) (b' : List ℕ) → PutSome ps b u b' → PutSome (ps ++ qs) b u b'
-some_first ps qs b u b' s = record { done = s.done; left = s.left ++ qs; held = s.held; are = sym (append_assoc s.done s.left qs) ∙ ap (λ (l : List Piece). l ++ qs) s.are; put = s.put }
+some_first ps qs b u b' s = record {
+  done = s.done;
+  failed = s.failed;
+  later = s.later ++ qs;
+  held = s.held;
+  are = sym (append_assoc s.done (s.failed ∷ s.later) qs) ∙ ap (λ (l : List Piece). l ++ qs) s.are;
+  put = s.put;
+}
 
 -- The words from one on
 pieces_split : (words : List ℕ) (i : ℕ) → i < length words → word_pieces (take i words) ++ (a_text (32 ∷ []) ∷ a_number (get_or words i 0) ∷ word_pieces (drop (suc i) words)) ≡ word_pieces words
@@ -156,14 +164,14 @@ pieces_split (w ∷ ws) (suc i) p = ap (λ (l : List Piece). a_text (32 ∷ []) 
 pub words_blank : (words buffer : List ℕ) (used i : ℕ) (b : List ℕ) (u : ℕ) (b' : List ℕ) → i < length words → PutAll (word_pieces (take i words)) buffer used b u → b' ≡ b → PutSome (word_pieces words) buffer used b'
 words_blank words buffer used i b u b' p h e =
     subst (λ (l : List Piece). PutSome l buffer used b') (pieces_split words i p)
-    (some_then _ _ buffer used b u b' h (some_none _ b u b' e))
+    (some_then _ _ buffer used b u b' h (some_none _ _ b u b' e))
 
 -- The word itself was not
 pub words_word : (words buffer : List ℕ) (used i : ℕ) (b : List ℕ) (u : ℕ) (b₁ : List ℕ) (u₁ : ℕ) (b' : List ℕ) → i < length words → PutAll (word_pieces (take i words)) buffer used b u
     → Put b u (32 ∷ []) b₁ u₁ → b' ≡ b₁ → PutSome (word_pieces words) buffer used b'
 words_word words buffer used i b u b₁ u₁ b' p h blank e =
     subst (λ (l : List Piece). PutSome l buffer used b') (pieces_split words i p)
-    (some_then _ _ buffer used b u b' h (some_text (32 ∷ []) _ b u b₁ u₁ b' blank (some_none _ b₁ u₁ b' e)))
+    (some_then _ _ buffer used b u b' h (some_text (32 ∷ []) _ b u b₁ u₁ b' blank (some_none _ _ b₁ u₁ b' e)))
 
 -- One text alone
 pub one_text : (t b : List ℕ) (u : ℕ) (b₁ : List ℕ) (u₁ : ℕ) → Put b u t b₁ u₁ → PutAll (a_text t ∷ []) b u b₁ u₁

@@ -45,7 +45,8 @@ word_pieces (w ∷ ws) = a_text (32 ∷ []) ∷ a_number w ∷ word_pieces ws
 -- The first of them were, and the one that came next was not: it could not be written
 pub record PutSome (ps : List Piece) (buffer : List ℕ) (used : ℕ) (buffer' : List ℕ) : Type 0 where
   pub done : List Piece
-  pub left : List Piece
+  pub failed : Piece
+  pub later : List Piece
   pub held : ℕ
-  pub are : done ++ left ≡ ps
+  pub are : done ++ (failed ∷ later) ≡ ps
   pub put : PutAll done buffer used buffer' held

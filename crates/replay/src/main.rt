@@ -11,7 +11,8 @@ mod messages;
 mod output;
 mod row_numbers;
 
-ghost use Rattle.std.specs.Prelude.{◌+◌, ◌<◌, ◌≤◌, length, IfOk};
+ghost use Rattle.std.specs.Prelude.{◌+◌, ◌<◌, ◌≤◌, length, IfOk, OnErr};
+ghost use Rattle.replay.specs.Cases.{ReadSomeOfCase};
 
 use judge::{Verdict, judge};
 use program_support::input::read_full;
@@ -28,9 +29,10 @@ const SHOWN: u32 = 20;
 
 // Reads the next case: how many bytes it has. 0 is the end; a case that is longer than the room or than the input is
 // cut.
-fn read_case(input: &mut impl Read, case: &mut [u8]) -> io::Result<usize>
+fn read_case<R: Read>(input: &mut R, case: &mut [u8]) -> io::Result<usize>
     requires { 4 ≤ length case.old }
-    ensures { IfOk result (λ n. n ≤ length case.new) }
+    ensures ok { IfOk result (λ n. n ≤ length case.new) }
+    ensures err { OnErr result (ReadSomeOfCase (R.remaining input.old) (R.remaining input.new) case.old case.new) }
 {
     if read_full(input, &mut case[0..4])? < 4 {
         return Ok(0);

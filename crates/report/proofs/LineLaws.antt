@@ -35,7 +35,7 @@ pub error_end : (e : Error) (b : List ℕ) (u : ℕ) (b₁ : List ℕ) (u₁ : �
     → PutSome (error_line e) b u b₃
 error_end e b u b₁ u₁ b₂ u₂ b₃ p h n =
     some_number e.kind _ b u b₁ u₁ b₃ p
-    (some_then (word_pieces (e.file ∷ e.line ∷ e.column ∷ [])) (a_text (10 ∷ []) ∷ []) b₁ u₁ b₂ u₂ b₃ h (some_none _ b₂ u₂ b₃ n))
+    (some_then (word_pieces (e.file ∷ e.line ∷ e.column ∷ [])) (a_text (10 ∷ []) ∷ []) b₁ u₁ b₂ u₂ b₃ h (some_none _ _ b₂ u₂ b₃ n))
 
 -- ---- the lines of the first errors
 lines_more : (errors : List Error) (i : ℕ) (d : Error) → i < length errors → error_lines (take (suc i) errors) ≡ error_lines (take i errors) ++ error_line (get_or errors i d)

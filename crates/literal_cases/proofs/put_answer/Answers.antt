@@ -1,10 +1,10 @@
 use Rattle.std.proofs.lemmas.Result.{IfOk-weaker, on_err_weaker}
-use Rattle.program_support.proofs.BufferLaws.{on_err, some_none}
+use Rattle.program_support.proofs.BufferLaws.{on_err}
 use Rattle.literal_cases.proofs.LineLaws as lines
 use Rattle.literal_cases.proofs.put_answer.Goals as goal
 
 pub returns-in_err-held-in-Value-clause-err : goal.returns-in_err-held-in-Value-clause-err
-returns-in_err-held-in-Value-clause-err g c = on_err c.from_residual.result (some_none _ _ _ _ c.in_err-held-in-Value.ensures.err)
+returns-in_err-held-in-Value-clause-err g c = on_err c.from_residual.result (lines.answer_none _ _ _ _ c.in_err-held-in-Value.ensures.err)
 
 pub returns-in_ok-held-in-Value-clause-ok : goal.returns-in_ok-held-in-Value-clause-ok
 returns-in_ok-held-in-Value-clause-ok g c =
@@ -18,4 +18,4 @@ pub returns-in-Invalid-clause-ok : goal.returns-in-Invalid-clause-ok
 returns-in-Invalid-clause-ok g c = IfOk-weaker c.put_text-in-Invalid.result _ _ (λ r h. lines.answer_invalid _ _ _ _ _ c.in-Invalid.is h) c.put_text-in-Invalid.ensures.ok
 
 pub returns-in-Invalid-clause-err : goal.returns-in-Invalid-clause-err
-returns-in-Invalid-clause-err g c = on_err_weaker c.put_text-in-Invalid.result (λ e. some_none _ _ _ _ e) c.put_text-in-Invalid.ensures.err
+returns-in-Invalid-clause-err g c = on_err_weaker c.put_text-in-Invalid.result (λ e. lines.answer_none _ _ _ _ e) c.put_text-in-Invalid.ensures.err

@@ -13,7 +13,10 @@ returns-then-line-blank-clause-ok g c =
     c.put_text.ensures.ok
 
 pub returns-then-line-blank-clause-err : goal.returns-then-line-blank-clause-err
-returns-then-line-blank-clause-err g c = on_err_weaker c.put_text.result (λ e. some_none _ _ _ _ e) c.put_text.ensures.err
+returns-then-line-blank-clause-err g c =
+    on_err_weaker c.put_text.result
+    (λ e. cases.no_blank c.args.line.now _ c.find-blank.ensures.value (λ (l : List Piece). PutSome l c.args.buffer.now c.args.used c.put_text.new.buffer) c.if-line-blank.true (some_none _ _ _ _ _ e))
+    c.put_text.ensures.err
 
 pub returns-in-Is-clause-ok : goal.returns-in-Is-clause-ok
 returns-in-Is-clause-ok g c =
@@ -37,4 +40,8 @@ returns-in-None-clause-ok g c =
     c.put_text-in-None.ensures.ok
 
 pub returns-in-None-clause-err : goal.returns-in-None-clause-err
-returns-in-None-clause-err g c = on_err_weaker c.put_text-in-None.result (λ e. some_none _ _ _ _ e) c.put_text-in-None.ensures.err
+returns-in-None-clause-err g c =
+    on_err_weaker c.put_text-in-None.result
+    (λ e. cases.no_base c.args.line.now _ c.find-blank.ensures.value (λ (l : List Piece). PutSome l c.args.buffer.now c.args.used c.put_text-in-None.new.buffer) c.if-line-blank.false None c.in-None.ensures refl
+    (some_none _ _ _ _ _ e))
+    c.put_text-in-None.ensures.err

@@ -4,7 +4,7 @@ use Rattle.report.proofs.LineLaws as lines
 use Rattle.report.proofs.put_error.Goals as goal
 
 pub returns-in_err-kind-clause-err : goal.returns-in_err-kind-clause-err
-returns-in_err-kind-clause-err g c = on_err c.from_residual.result (some_none _ _ _ _ c.in_err-kind.ensures.err)
+returns-in_err-kind-clause-err g c = on_err c.from_residual.result (some_none _ _ _ _ _ c.in_err-kind.ensures.err)
 
 pub returns-in_err-words-clause-err : goal.returns-in_err-words-clause-err
 returns-in_err-words-clause-err g c = on_err c.from_residual-in_err-words.result (lines.error_words c.args.error _ _ _ _ _ c.in_ok-kind.ensures.ok c.in_err-words.ensures.err)
