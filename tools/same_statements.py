@@ -3,7 +3,7 @@
 
 Usage:  python3 tools/same_statements.py
 Two laws are the same if their statements are, two definitions if their clauses are too, both up to the names of bound variables. What would
-be saved most comes first. Proof.antt files are not read: their statements belong to one function each.
+be saved most comes first. The answers of functions are not read: their statements belong to one function each.
 """
 import collections, glob, os, re
 from dataclasses import dataclass, field
