@@ -25,13 +25,10 @@ pub fn clear_parameters(s: &[u8], parameters: Nodes, work: &mut [u32])
         work.old }
 {
     let mut at = parameters.from;
-    while at < parameters.end {
-        if half(s, at + KIND) != PARAMETER {
-            return;
-        }
+    while at < parameters.end && half(s, at + KIND) == PARAMETER {
         let name = word(s, at + HEAD_END);
         walk::set_word(work, name, walk::ARGUMENT, 0);
-        at = at + length_at(s, at);
+        at += length_at(s, at);
     }
 }
 
@@ -67,6 +64,6 @@ fn clear_block(s: &[u8], statements: Nodes, work: &mut [u32])
     while at < statements.end {
         let node = Node { at, depth };
         clear_statement(s, node, work);
-        at = at + length_at(s, at);
+        at += length_at(s, at);
     }
 }

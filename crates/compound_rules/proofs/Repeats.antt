@@ -1,13 +1,14 @@
 -- Names that stand more than once, and the whole struct compound. Assumes nothing.
-use Prim.Native.Nat.{ℕ, suc, ◌+◌, ◌^◌, ◌≤◌, ◌<◌}
+use Prim.Native.Nat.{ℕ, suc, ◌+◌, ◌≤◌, ◌<◌}
 use mathlib.Core.Path.{◌≡◌, refl, sym, ap, ◌∙◌, subst}
 use mathlib.Core.Bool.{Bool, true, false, cond}
 use mathlib.Core.List.{List, [], ◌∷◌, ◌++◌}
 use native.Mathlib.Omega.{arith}
 use lib.Dec.{eqb, leb}
+use mir.Val.{bool_byte}
 use lib.ListN.{length}
 use borrow.Author.Tests.{eq-eqb, ne_eqb}
-use Rattle.types.specs.Ty.{Ty, kind_of, first_of, desugar, struct_kind}
+use Rattle.types.specs.Ty.{Ty, kind_of, first_of, desugar}
 use Rattle.types.specs.Table.{unfolded}
 use Rattle.types.specs.Post.{TypePart}
 use Rattle.record_bytes.specs.Bytes.{Read, word_at}
@@ -28,16 +29,8 @@ use Rattle.expression_rules.proofs.Laws.{spells_at, checks_unless, checks_room, 
 use Rattle.call_rules.specs.Lists.{RecordsListed}
 use Rattle.call_rules.proofs.Chains.{first, next_place}
 use Rattle.call_rules.proofs.Turns.{checks_at, checks_none}
-use Rattle.compound_rules.specs.Fields.{FieldsAt, Compounded, CompoundTyped, field_errors_against, CheckFields, count_if, Occurs, Single, CheckRepeats, StructCompound}
+use Rattle.compound_rules.specs.Fields.{FieldsAt, Compounded, CompoundTyped, field_errors_against, CheckFields, Occurs, Single, CheckRepeats, StructCompound}
 use Rattle.compound_rules.proofs.Fields.{at_first, others, each_first, others_at, none_left, twice_at}
-
--- `count_if`
-module _ (holds : Bool) (count : ℕ) where
-  pub counted_one : holds ≡ true → count + 1 ≡ count_if holds count
-  counted_one q = rw q refl
-
-  pub counted_none : holds ≡ false → count ≡ count_if holds count
-  counted_none q = rw q refl
 
 -- `occurrences`
 pub record Occurring (s : List ℕ) (from stop name at count : ℕ) : Type 0 where
@@ -45,45 +38,39 @@ pub record Occurring (s : List ℕ) (from stop name at count : ℕ) : Type 0 whe
   pub few : count ≤ at
   pub total : (fields : List CompoundField) → FieldsAt s stop fields from → (rest : List CompoundField) × FieldsAt s stop rest at × (occurrences name fields ≡ count + occurrences name rest)
 
-pub occurring_start : (s : List ℕ) (from stop name : ℕ) → RecordsListed s from stop → Occurring s from stop name from 0
-occurring_start s from stop name l = record { listed = l; few = omega arith; total = λ fields h. (fields, h, omega arith) }
-
 module _ (s : List ℕ) (from stop name at count : ℕ) (i : Occurring s from stop name at count) where
   module _ (p : at < stop) where
     pub name_word : at + 16 + 4 ≤ length s
     name_word = let f = first s at stop i.listed p in omega (arith, f.slot, f.ends, i.listed.long)
 
-    pub occurring_small : count + 1 < 2 ^ 32
-    occurring_small = omega (arith, i.few, i.listed.long, i.listed.few)
+    one_more : (b : Bool) → bool_byte b ≤ 1
+    one_more true = omega arith
+    one_more false = omega arith
 
-    pub occurring_on : (word : ℕ) → Read (word_at s (at + 16)) 32 word → (count' : ℕ) → count' ≡ count_if (eqb word name) count → (len : ℕ) → Read (word_at s at) 32 len
-        → Occurring s from stop name (at + len) count'
+    pub occurring_on : (word : ℕ) → Read (word_at s (at + 16)) 32 word → (more : ℕ) → more ≡ bool_byte (eqb word name) → (len : ℕ) → Read (word_at s at) 32 len
+        → Occurring s from stop name (at + len) (count + more)
     unfolding FieldsAt occurrences
-    occurring_on word ew count' ec len el =
+    occurring_on word ew more em len el =
         let f = first s at stop i.listed p in
         let q = next_place s at stop i.listed p len el in
         record {
           listed = subst (λ (x : ℕ). RecordsListed s x stop) q f.next;
-          few = let b = bound (eqb word name) in omega (arith, i.few, f.slot, el.is, ec, b);
+          few = let one = one_more (eqb word name) in omega (arith, i.few, f.slot, el.is, em, one);
           total = λ fields h. step fields (i.total fields h);
         }
       where
-        bound : (b : Bool) → count_if b count ≤ count + 1
-        bound true = omega arith
-        bound false = omega arith
-
-        tally : (b : Bool) (n : ℕ) → count + cond b (suc n) n ≡ count_if b count + n
+        tally : (b : Bool) (n : ℕ) → count + cond b (suc n) n ≡ count + bool_byte b + n
         tally true n = omega arith
-        tally false n = refl
+        tally false n = omega arith
 
         step : (fields : List CompoundField) → ((rest : List CompoundField) × FieldsAt s stop rest at × (occurrences name fields ≡ count + occurrences name rest))
-            → (rest : List CompoundField) × FieldsAt s stop rest (at + len) × (occurrences name fields ≡ count' + occurrences name rest)
+            → (rest : List CompoundField) × FieldsAt s stop rest (at + len) × (occurrences name fields ≡ count + more + occurrences name rest)
         step fields ([], h, z) = absurd (omega (arith, h))
         step fields (x ∷ rest, h, z) = (
           rest,
           subst (λ (y : ℕ). FieldsAt s stop rest y) (next_place s at stop i.listed p len el) h.2,
           z ∙ tally (eqb x.name name) (occurrences name rest)
-              ∙ ap (λ (n : ℕ). count_if (eqb n name) count + occurrences name rest) (sym (ew.is ∙ h.1.name)) ∙ ap (λ (n : ℕ). n + occurrences name rest) (sym ec),
+              ∙ ap (λ (n : ℕ). count + bool_byte (eqb n name) + occurrences name rest) (sym (ew.is ∙ h.1.name)) ∙ ap (λ (n : ℕ). count + n + occurrences name rest) (sym em),
         )
 
   pub occurring_done : stop ≤ at → Occurs s from stop name count
@@ -111,7 +98,6 @@ pub record Standing (s : List ℕ) (from stop at : ℕ) (C : Lent) (x : Repeatin
 
 pub record Repeats (s : List ℕ) (from stop : ℕ) (e₀ : List ℕ) (st₀ : State) (at : ℕ) (e : List ℕ) (st : State) : Type 0 where
   pub listed : RecordsListed s at stop
-  pub long : length e ≡ length e₀
   pub going : (w e' : List ℕ) (st' : State) → Checks (Standing s from stop at) (λ x. repeated_among x.all x.left) w e st e' st'
       → Checks (λ C fields. FieldsAt s stop fields from) (λ fields. repeat_errors fields) w e₀ st₀ e' st'
 
@@ -129,7 +115,6 @@ module _ (s : List ℕ) (from stop : ℕ) (e₀ : List ℕ) (st₀ : State) wher
   repeats_start l =
       record {
         listed = l;
-        long = refl;
         going = λ w e' st' c. checks_at (λ fields. record { all = fields; left = fields }) (λ x. repeated_among x.all x.left) c (λ work o ix fields h. record { whole = h; rest = h });
       }
 
@@ -141,11 +126,11 @@ module _ (s : List ℕ) (from stop : ℕ) (e₀ : List ℕ) (st₀ : State) wher
     repeated_head p = let f = first s at stop i.listed p in omega (arith, f.slot, f.ends, i.listed.long)
 
     pub repeats_on : at < stop → (name : ℕ) → Read (word_at s (at + 16)) 32 name → (once : Bool) → Single s from stop name once → (e₁ : List ℕ) (st₁ : State)
-        → ReportedUnless once (error_for s at 29 name 0 0) e st e₁ st₁ → length e₁ ≡ length e → (len : ℕ) → Read (word_at s at) 32 len → Repeats s from stop e₀ st₀ (at + len) e₁ st₁
+        → ReportedUnless once (error_for s at 29 name 0 0) e st e₁ st₁ → (len : ℕ) → Read (word_at s at) 32 len → Repeats s from stop e₀ st₀ (at + len) e₁ st₁
     unfolding SpellsOperand is_type_operand operand_sort
-    repeats_on p name en once single e₁ st₁ rep same len el =
+    repeats_on p name en once single e₁ st₁ rep len el =
         subst (λ (x : ℕ). Repeats s from stop e₀ st₀ x e₁ st₁) (next_place s at stop i.listed p len el)
-        (record { listed = (first s at stop i.listed p).next; long = same ∙ i.long; going = λ w e' st' later. i.going w e' st' (turn w e' st' later) })
+        (record { listed = (first s at stop i.listed p).next; going = λ w e' st' later. i.going w e' st' (turn w e' st' later) })
       where
         turn : (w e' : List ℕ) (st' : State) → Checks (Standing s from stop (stop_at s at)) (λ x. repeated_among x.all x.left) w e₁ st₁ e' st'
             → Checks (Standing s from stop at) (λ x. repeated_among x.all x.left) w e st e' st'
@@ -189,9 +174,6 @@ module _ (s : List ℕ) (at target from stop : ℕ) (o w e e' : List ℕ) (st st
       (λ work output ix x y p.
       let z : eqb (kind_of (desugar x.target)) 8 ≡ false = ne_eqb (kind_of (desugar x.target)) 8 (λ u. q (ek ∙ ap kind_of (stripped work output ix x y p) ∙ u)) in
       rw z refl)
-
-  pub struct_kind_lem : k ≡ 8 → kind_of (unfolded w bare) ≡ struct_kind
-  struct_kind_lem q = sym ek ∙ q
 
   pub struct_filled : k ≡ 8 → CheckFields s from stop bare o w e st e' st' → StructCompound s at target from stop o w e st e' st'
   struct_filled q c =

@@ -4,23 +4,16 @@ use mathlib.Core.Path.{◌≡◌, refl, sym, ap, ◌∙◌, subst}
 use mathlib.Core.Bool.{Bool, true, false, cond}
 use mathlib.Core.List.{List, [], ◌∷◌}
 use native.Mathlib.Omega.{arith}
-use lib.Dec.{eqb, leb}
-use lib.ListN.{length, get_or, set, replicate, length-set, length-replicate, get_or-replicate}
-use lib.Seq.{set_out, get_or-set_same, get_or-set_other}
-use borrow.Author.Tests.{eqb-true, eqb-false, leb-true, leb-false, le-leb, lt-leb}
+use lib.Dec.{eqb}
+use lib.ListN.{length, get_or, replicate, length-set, length-replicate, get_or-replicate}
+use lib.Seq.{get_or-set_same, get_or-set_other}
+use borrow.Author.Tests.{eqb-true, eqb-false}
 use Rattle.record_bytes.specs.Bytes.{Read, word_at}
 use Rattle.trees.specs.Tree.{CompoundField}
 use Rattle.meaning.specs.Compound.{occurrences}
 use Rattle.call_rules.specs.Lists.{RecordsListed, Chain}
 use Rattle.call_rules.proofs.Chains.{first, next_place}
-use Rattle.compound_rules.specs.Fields.{FieldsAt, Occurs, up_to_two, entries, with_name, Tallied, Single}
-
--- `count_name`
-pub name_none : (table : List ℕ) (name : ℕ) → length table ≡ entries → entries ≤ name → table ≡ with_name table name
-name_none table name long p = sym (set_out table name (up_to_two (get_or table name 0)) (omega (arith, long, p)))
-
-pub name_counted : (table : List ℕ) (name count : ℕ) → count ≡ up_to_two (get_or table name 0) → set table name count ≡ with_name table name
-name_counted table name count e = ap (set table name) e
+use Rattle.compound_rules.specs.Fields.{FieldsAt, up_to_two, entries, with_name, Tallied}
 
 -- `count_names`: so many of the fields before `at` have the name, and its entry says so
 pub record Seen (s : List ℕ) (stop at : ℕ) (table : List ℕ) (name : ℕ) (fields : List CompoundField) : Type 0 where
@@ -107,24 +100,6 @@ module _ (s : List ℕ) (from stop at : ℕ) (table : List ℕ) (i : Tallying s 
           none : (rest : List CompoundField) → FieldsAt s stop rest at → occurrences name fields ≡ x.seen + occurrences name rest → get_or table name 0 ≡ min (occurrences name fields) 2
           none [] h z = omega (arith, z, x.entry)
           none (f ∷ rest) h z = absurd (omega (arith, h.0))
-
--- An empty table says nothing
-pub tallied_none : (s : List ℕ) (from stop : ℕ) → Tallied s from stop []
-tallied_none s from stop = record { entry = λ name q fields h. absurd (omega (arith, q)) }
-
--- `is_single`
-pub single_told : (s : List ℕ) (from stop : ℕ) (table : List ℕ) (name : ℕ) → Tallied s from stop table → name < length table → Single s from stop name (leb (get_or table name 0) 1)
-single_told s from stop table name t p = record { is = λ fields h. ap (λ (n : ℕ). leb n 1) (t.entry name p fields h) ∙ cut (occurrences name fields) }
-  where
-    cut : (n : ℕ) → leb (min n 2) 1 ≡ leb n 1
-    cut n = go (leb n 1) refl
-      where
-        go : (b : Bool) → leb n 1 ≡ b → leb (min n 2) 1 ≡ b
-        go true e = let q : n ≤ 1 = leb-true n 1 e in le-leb (min n 2) 1 (omega arith)
-        go false e = let q : 1 < n = leb-false n 1 e in lt-leb (min n 2) 1 (omega arith)
-
-pub single_counted : (s : List ℕ) (from stop name n : ℕ) → Occurs s from stop name n → Single s from stop name (leb n 1)
-single_counted s from stop name n o = record { is = λ fields h. ap (λ (m : ℕ). leb m 1) (o.count fields h) }
 
 -- A list ends where it begins, or later
 pub in_order : (s : List ℕ) (from stop : ℕ) → RecordsListed s from stop → from ≤ stop

@@ -1,5 +1,5 @@
 -- The fields of a struct compound whose values are typed: what is required of them, what they show, and what the checks promise.
-use Rattle.std.specs.Prelude.{ℕ, ◌+◌, ◌<◌, min, ◌≡◌, Bool, cond, List, [], ◌∷◌, length, get_or, set, leb}
+use Rattle.std.specs.Prelude.{ℕ, ◌+◌, ◌<◌, min, ◌≡◌, Bool, List, [], ◌∷◌, length, get_or, set, leb}
 use Rattle.types.specs.Ty.{Ty, first_of, field_named}
 use Rattle.types.specs.Table.{unfolded}
 use Rattle.record_bytes.specs.Bytes.{half_at, word_at, head_end, field_end}
@@ -68,9 +68,6 @@ field_errors_against cells ctx fields = each (λ f. field_fits f.location f.name
 abbrev pub CheckFields : (s : List ℕ) (from stop bare : ℕ) (output rows errors : List ℕ) (state : State) (errors' : List ℕ) (state' : State) → Type 0
 CheckFields s from stop bare output rows =
     Checks (FieldsTyped s output from stop) (λ x. field_errors_against (first_of (unfolded rows bare)) x.ctx x.fields) rows
-
-abbrev pub count_if : Bool → (count : ℕ) → ℕ
-count_if holds count = cond holds (count + 1) count
 
 -- r is how many fields have the name
 pub record Occurs (s : List ℕ) (from stop name r : ℕ) : Type 0 where

@@ -1,15 +1,17 @@
 // Compounds, once their elements or the values of their fields are typed. The rows of these are read back from their slots.
 #![tactic(auto)]
+// Rows and slots are read through a reborrow: of a field that is lent as `&[u32]` only the length is known afterwards.
 
-ghost use Rattle.std.specs.Prelude.{◌+◌, ◌^◌, ◌≤◌, ◌<◌, length, replicate, ◌≡◌};
+ghost use Rattle.std.specs.Prelude.{◌+◌, ◌≤◌, ◌<◌, length, replicate, ◌≡◌};
 ghost use Rattle.types.specs.Ty.{struct_kind, kind_of};
 ghost use Rattle.types.specs.Table.{IsType, unfolded};
 ghost use Rattle.record_bytes.specs.Bytes.{word_at, head_end, field_end};
 ghost use Rattle.relations.specs.TypeRows.{OneType};
 ghost use Rattle.call_rules.specs.Lists.{RecordsListed, SlotsFilled};
+ghost use Rattle.walk.specs.Loans.{OnlyErrors};
 ghost use Rattle.compound_rules.specs.Elements.{CheckElements, ArrayCompound};
-ghost use Rattle.compound_rules.specs.Fields.{value_place, FilledFields, CheckField, CheckFields, count_if, Occurs};
-ghost use Rattle.compound_rules.specs.Fields.{up_to_two, entries, with_name, Tallied, Single, CheckRepeats};
+ghost use Rattle.compound_rules.specs.Fields.{value_place, FilledFields, CheckField, CheckFields, Occurs};
+ghost use Rattle.compound_rules.specs.Fields.{entries, with_name, Tallied, Single, CheckRepeats};
 ghost use Rattle.compound_rules.specs.Fields.{StructCompound};
 
 use call_rules::count_records;
@@ -18,35 +20,25 @@ use expression_rules::{check_types_are_assignable, report_unless};
 use fallible::kinds::{
     FIELD_ASSIGNED_TWICE, NO_ARRAY_TARGET, NO_STRUCT_TARGET, NO_SUCH_TARGET_FIELD, WRONG_LENGTH,
 };
-use record_bytes::{HEAD_END, length_at, word};
-use walk::State;
+use record_bytes::{FIELD_END, HEAD_END, length_at, word};
+use walk::Walk;
 
 // The elements from `from` to `end` against the element type; errors stand at the record at `at`.
-fn check_elements(
-    s: &[u8],
-    at: usize,
-    from: usize,
-    end: usize,
-    element: u32,
-    output: &[u8],
-    errors: &mut [u32],
-    rows: &[u32],
-    state: State,
-) -> State
-    requires { (head_end at ≤ length s.now) × SlotsFilled rows.now state.rows s.now output.now from end
-        × OneType rows.now state.rows element }
-    ensures { CheckElements s.now at from end element
-        output.now rows.now errors.old state
-        errors.new result }
+fn check_elements(s: &[u8], at: usize, from: usize, end: usize, element: u32, walk: &mut Walk<'_>)
+    requires { (head_end at ≤ length s.now) × SlotsFilled walk.old.rows.now walk.old.state.rows s.now walk.old.output.now from end
+        × OneType walk.old.rows.now walk.old.state.rows element }
+    ensures effect { CheckElements s.now at from end element
+        walk.old.output.now walk.old.rows.now walk.old.errors.now walk.old.state
+        walk.new.errors.now walk.new.state }
+    ensures loans { OnlyErrors walk.old walk.new }
 {
     let mut place = from;
-    let mut next = state;
     while place < end {
+        let output = &mut *walk.output;
         let got = word(output, place + HEAD_END);
-        next = check_types_are_assignable(s, at, element, got, errors, rows, next);
-        place = place + length_at(s, place);
+        check_types_are_assignable(s, at, element, got, walk);
+        place += length_at(s, place);
     }
-    next
 }
 
 // An array compound for a target of the type row `target`.
@@ -56,94 +48,68 @@ pub fn array_compound(
     target: u32,
     from: usize,
     end: usize,
-    output: &[u8],
-    errors: &mut [u32],
-    rows: &[u32],
-    state: State,
-) -> State
-    requires { (head_end at ≤ length s.now) × SlotsFilled rows.now state.rows s.now output.now from end
-        × OneType rows.now state.rows target }
-    ensures { ArrayCompound s.now at target from end
-        output.now rows.now errors.old state
-        errors.new result }
+    walk: &mut Walk<'_>,
+)
+    requires { (head_end at ≤ length s.now) × SlotsFilled walk.old.rows.now walk.old.state.rows s.now walk.old.output.now from end
+        × OneType walk.old.rows.now walk.old.state.rows target }
+    ensures effect { ArrayCompound s.now at target from end
+        walk.old.output.now walk.old.rows.now walk.old.errors.now walk.old.state
+        walk.new.errors.now walk.new.state }
+    ensures loans { OnlyErrors walk.old walk.new }
 {
-    let bare = types::desugar(rows, state.rows, target);
-    if types::kind(rows, state.rows, bare) != types::ARRAY {
-        let error = error_at(s, at, NO_ARRAY_TARGET, target, 0, 0);
-        return walk::report(errors, state, error);
+    let count = walk.state.rows;
+    let rows = &mut *walk.rows;
+    let bare = types::desugar(rows, count, target);
+    if types::kind(rows, count, bare) != types::ARRAY {
+        walk.report(error_at(s, at, NO_ARRAY_TARGET, target, 0, 0));
+        return;
     }
-    let expected = types::size(rows, state.rows, bare);
+    let expected = types::size(rows, count, bare);
+    let element = types::part(rows, count, bare);
     let got = count_records(s, from, end);
-    let element = types::part(rows, state.rows, bare);
-    let kind = WRONG_LENGTH;
     let holds = expected == got;
-    let next = report_unless(holds, s, at, kind, expected, got, 0, errors, state);
-    check_elements(s, at, from, end, element, output, errors, rows, next)
+    report_unless(holds, s, at, WRONG_LENGTH, expected, got, 0, walk);
+    check_elements(s, at, from, end, element, walk);
 }
 
 // The field at `place` against the struct type of row `bare`.
-fn check_field(
-    s: &[u8],
-    place: usize,
-    bare: u32,
-    output: &[u8],
-    errors: &mut [u32],
-    rows: &[u32],
-    state: State,
-) -> State
-    requires place_in_bounds { (field_end place ≤ length s.now) × (value_place place + 4 ≤ length output.now)
-        × OneType rows.now state.rows bare }
-    requires bare_value { (kind_of (unfolded rows.now bare) ≡ struct_kind)
-        × IsType rows.now state.rows (word_at output.now (value_place place)) }
-    ensures { CheckField s.now place bare
-        output.now rows.now errors.old state
-        errors.new result }
+fn check_field(s: &[u8], place: usize, bare: u32, walk: &mut Walk<'_>)
+    requires place_in_bounds { (field_end place ≤ length s.now) × (value_place place + 4 ≤ length walk.old.output.now)
+        × OneType walk.old.rows.now walk.old.state.rows bare }
+    requires bare_value { (kind_of (unfolded walk.old.rows.now bare) ≡ struct_kind)
+        × IsType walk.old.rows.now walk.old.state.rows (word_at walk.old.output.now (value_place place)) }
+    ensures effect { CheckField s.now place bare
+        walk.old.output.now walk.old.rows.now walk.old.errors.now walk.old.state
+        walk.new.errors.now walk.new.state }
+    ensures loans { OnlyErrors walk.old walk.new }
 {
     let name = word(s, place + HEAD_END);
-    let field = types::field_named(rows, state.rows, bare, name);
+    let count = walk.state.rows;
+    let rows = &mut *walk.rows;
+    let field = types::field_named(rows, count, bare, name);
     if field == 0 {
-        let error = error_at(s, place, NO_SUCH_TARGET_FIELD, name, 0, 0);
-        return walk::report(errors, state, error);
+        walk.report(error_at(s, place, NO_SUCH_TARGET_FIELD, name, 0, 0));
+        return;
     }
-    let got = word(output, place + 36);
-    check_types_are_assignable(s, place, field, got, errors, rows, state)
+    let output = &mut *walk.output;
+    let got = word(output, place + FIELD_END + HEAD_END);
+    check_types_are_assignable(s, place, field, got, walk);
 }
 
 // The fields from `from` to `end` against the struct type of row `bare`.
-fn check_fields(
-    s: &[u8],
-    from: usize,
-    end: usize,
-    bare: u32,
-    output: &[u8],
-    errors: &mut [u32],
-    rows: &[u32],
-    state: State,
-) -> State
-    requires filled_fields { FilledFields rows.now state.rows s.now output.now from end }
-    requires one_type { OneType rows.now state.rows bare × (kind_of (unfolded rows.now bare) ≡ struct_kind) }
-    ensures { CheckFields s.now from end bare
-        output.now rows.now errors.old state
-        errors.new result }
+fn check_fields(s: &[u8], from: usize, end: usize, bare: u32, walk: &mut Walk<'_>)
+    requires filled_fields { FilledFields walk.old.rows.now walk.old.state.rows s.now walk.old.output.now from end }
+    requires one_type { OneType walk.old.rows.now walk.old.state.rows bare × (kind_of (unfolded walk.old.rows.now bare) ≡ struct_kind) }
+    ensures effect { CheckFields s.now from end bare
+        walk.old.output.now walk.old.rows.now walk.old.errors.now walk.old.state
+        walk.new.errors.now walk.new.state }
+    ensures loans { OnlyErrors walk.old walk.new }
 {
     let mut place = from;
-    let mut next = state;
     while place < end {
-        next = check_field(s, place, bare, output, errors, rows, next);
-        place = place + length_at(s, place);
+        check_field(s, place, bare, walk);
+        place += length_at(s, place);
     }
-    next
-}
-
-// One more, if a test holds.
-fn count_if(holds: bool, count: u32) -> u32
-    requires { count + 1 < 2 ^ 32 }
-    ensures { result ≡ count_if holds count }
-{
-    if holds {
-        return count + 1;
-    }
-    count
 }
 
 // How many fields from `from` to `end` have a name.
@@ -154,8 +120,8 @@ fn occurrences(s: &[u8], from: usize, end: usize, name: u32) -> u32
     let mut at = from;
     let mut count: u32 = 0;
     while at < end {
-        count = count_if(word(s, at + HEAD_END) == name, count);
-        at = at + length_at(s, at);
+        count += u32::from(word(s, at + HEAD_END) == name);
+        at += length_at(s, at);
     }
     count
 }
@@ -166,27 +132,15 @@ const ENTRIES: usize = 4096;
 // The bytes of a list that is worth a table.
 const LONG: usize = 1024;
 
-// One more, but no more than 2.
-fn up_to_two(count: u8) -> u8
-    ensures { result ≡ up_to_two count }
-{
-    if count < 2 {
-        return count + 1;
-    }
-    2
-}
-
-// Counts a name into a table, if it has an entry there.
+// Counts a name into a table, if it has an entry there: up to 2.
 fn count_name(table: &mut [u8; ENTRIES], name: u32)
     requires { length table.old ≡ entries }
     ensures { table.new ≡ with_name table.old name }
 {
     let i = name as usize;
-    if ENTRIES <= i {
-        return;
+    if i < ENTRIES {
+        table[i] = table[i].saturating_add(1).min(2);
     }
-    let count = table[i];
-    table[i] = up_to_two(count);
 }
 
 // Counts the names of the fields from `from` to `end` into a table of zeros.
@@ -197,7 +151,7 @@ fn count_names(s: &[u8], from: usize, end: usize, table: &mut [u8; ENTRIES])
     let mut at = from;
     while at < end {
         count_name(table, word(s, at + HEAD_END));
-        at = at + length_at(s, at);
+        at += length_at(s, at);
     }
 }
 
@@ -206,48 +160,45 @@ fn is_single(s: &[u8], from: usize, end: usize, table: &[u8], name: u32) -> bool
     requires { RecordsListed s.now from end × Tallied s.now from end table.now }
     ensures { Single s.now from end name result }
 {
-    let i = name as usize;
-    if table.len() <= i {
-        return occurrences(s, from, end, name) <= 1;
+    match table.get(name as usize) {
+        Some(&count) => count <= 1,
+        None => occurrences(s, from, end, name) <= 1,
     }
-    table[i] <= 1
 }
 
 // An error at each field from `from` to `end` whose name another has too. The table may be empty.
-fn report_repeats(
-    s: &[u8],
-    from: usize,
-    end: usize,
-    table: &[u8],
-    errors: &mut [u32],
-    state: State,
-) -> State
+fn report_repeats(s: &[u8], from: usize, end: usize, table: &[u8], walk: &mut Walk<'_>)
     requires { RecordsListed s.now from end × Tallied s.now from end table.now }
-    ensures { CheckRepeats s.now from end errors.old state errors.new result }
+    ensures effect { CheckRepeats s.now from end
+        walk.old.errors.now walk.old.state
+        walk.new.errors.now walk.new.state }
+    ensures loans { OnlyErrors walk.old walk.new }
 {
     let mut at = from;
-    let mut next = state;
     while at < end {
         let name = word(s, at + HEAD_END);
         let once = is_single(s, from, end, table, name);
-        next = report_unless(once, s, at, FIELD_ASSIGNED_TWICE, name, 0, 0, errors, next);
-        at = at + length_at(s, at);
+        report_unless(once, s, at, FIELD_ASSIGNED_TWICE, name, 0, 0, walk);
+        at += length_at(s, at);
     }
-    next
 }
 
 // An error at each field from `from` to `end` whose name another has too. In a long list the names are first counted
 // into a table.
-pub fn check_repeats(s: &[u8], from: usize, end: usize, errors: &mut [u32], state: State) -> State
+pub fn check_repeats(s: &[u8], from: usize, end: usize, walk: &mut Walk<'_>)
     requires { RecordsListed s.now from end }
-    ensures { CheckRepeats s.now from end errors.old state errors.new result }
+    ensures effect { CheckRepeats s.now from end
+        walk.old.errors.now walk.old.state
+        walk.new.errors.now walk.new.state }
+    ensures loans { OnlyErrors walk.old walk.new }
 {
     if end - from < LONG {
-        return report_repeats(s, from, end, b"", errors, state);
+        report_repeats(s, from, end, b"", walk);
+    } else {
+        let mut table = [0u8; ENTRIES];
+        count_names(s, from, end, &mut table);
+        report_repeats(s, from, end, &table, walk);
     }
-    let mut table = [0u8; ENTRIES];
-    count_names(s, from, end, &mut table);
-    report_repeats(s, from, end, &table, errors, state)
 }
 
 // A struct compound for a target of the type row `target`.
@@ -257,22 +208,22 @@ pub fn struct_compound(
     target: u32,
     from: usize,
     end: usize,
-    output: &[u8],
-    errors: &mut [u32],
-    rows: &[u32],
-    state: State,
-) -> State
+    walk: &mut Walk<'_>,
+)
     requires { (head_end at ≤ length s.now)
-        × FilledFields rows.now state.rows s.now output.now from end
-        × OneType rows.now state.rows target }
-    ensures { StructCompound s.now at target from end
-        output.now rows.now errors.old state
-        errors.new result }
+        × FilledFields walk.old.rows.now walk.old.state.rows s.now walk.old.output.now from end
+        × OneType walk.old.rows.now walk.old.state.rows target }
+    ensures effect { StructCompound s.now at target from end
+        walk.old.output.now walk.old.rows.now walk.old.errors.now walk.old.state
+        walk.new.errors.now walk.new.state }
+    ensures loans { OnlyErrors walk.old walk.new }
 {
-    let bare = types::desugar(rows, state.rows, target);
-    if types::kind(rows, state.rows, bare) != types::STRUCT {
-        let error = error_at(s, at, NO_STRUCT_TARGET, target, 0, 0);
-        return walk::report(errors, state, error);
+    let count = walk.state.rows;
+    let rows = &mut *walk.rows;
+    let bare = types::desugar(rows, count, target);
+    if types::kind(rows, count, bare) != types::STRUCT {
+        walk.report(error_at(s, at, NO_STRUCT_TARGET, target, 0, 0));
+        return;
     }
-    check_fields(s, from, end, bare, output, errors, rows, state)
+    check_fields(s, from, end, bare, walk);
 }

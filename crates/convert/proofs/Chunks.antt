@@ -14,7 +14,7 @@ use Rattle.node.specs.Fine.{FineNodes}
 use Rattle.node.specs.declared.Nodes.{Nodes}
 use Rattle.shape.proofs.Cases.{by_number}
 use Rattle.walk.specs.declared.State.{State}
-use Rattle.walk.specs.declared.Typed.{Typed}
+use Rattle.walk.specs.Typed.{Typed}
 use Rattle.walk.specs.Represents.{Lent, lent}
 use Rattle.walk.specs.Post.{Makes}
 use Rattle.walk.specs.Cells.{CellsMade, CellsOk}
@@ -89,18 +89,18 @@ module _ (s : List ℕ) (pass : Pass) (fields : Nodes) where
         }
 
 -- The cells of the first can be made once the later ones are converted
-pub cells_ok : (s : List ℕ) (pass : Pass) (fields : Nodes) (kept : List ℕ) (C : Lent) (work o e w b : List ℕ) (first : Chunk)
-    → FieldsChunk s pass fields kept C (lent work o e w b first.state) first → (o₁ e₁ w₁ b₁ : List ℕ) (later : Typed)
-    → FieldsConverted s pass (nodes_from fields first.from) (lent work o e w b first.state) (lent work o₁ e₁ w₁ b₁ later.state) later.ty
+pub cells_ok : (s : List ℕ) (pass : Pass) (fields : Nodes) (kept : List ℕ) (C : Lent) (work o e w b : List ℕ) (st : State) (first : Chunk)
+    → FieldsChunk s pass fields kept C (lent work o e w b st) first → (o₁ e₁ w₁ b₁ : List ℕ) (later : Typed)
+    → FieldsConverted s pass (nodes_from fields first.from) (lent work o e w b st) (lent work o₁ e₁ w₁ b₁ later.state) later.ty
     → CellsOk (field_cell kept) field_kind first.count w₁ b₁ later.state later.ty
-cells_ok s pass fields kept C work o e w b first h o₁ e₁ w₁ b₁ later all =
+cells_ok s pass fields kept C work o e w b st first h o₁ e₁ w₁ b₁ later all =
     let g = all.walked.grew in
     record {
       table = g.good.table;
       indexed = g.good.indexed;
       parts = λ i l v n x grew cell.
           let ty = get_or kept (2 * i) 0 in
-          (extends_type w₁ v later.state.rows n grew ty (extends_type w w₁ first.state.rows later.state.rows g.extends ty (h.to.known i l)), cell, h.to.plain i l);
+          (extends_type w₁ v later.state.rows n grew ty (extends_type w w₁ st.rows later.state.rows g.extends ty (h.to.known i l)), cell, h.to.plain i l);
       sort = λ v n i x r q. q;
       later = all.is;
     }

@@ -13,9 +13,8 @@ use Rattle.types.proofs.Laws.{injective}
 use Rattle.fallible.specs.Outcome.{refused, accepted, or_next, first_refusing, outcome_after}
 use Rattle.fallible.specs.Errors.{error_width}
 use Rattle.layout.specs.Layout.{layout_of, layout_refusal}
-use Rattle.names.specs.Names.{names_of, repeated_name, name_refusal}
-use Rattle.names.specs.declared.Repeated.{Repeated}
-use Rattle.names.specs.declared.Repeated.TheVariants.{Nowhere, At}
+use Rattle.names.specs.Names.{names_of, Repeated, repeated_name, name_refusal}
+use Rattle.std.proofs.Common.{Some, None}
 use Rattle.layout.proofs.LayoutLaws.{only_good}
 use Rattle.meaning.specs.Promise.{work_width, Counts, counts_of, Lengths, lengths_of, refuse_if, tests, answer_of}
 use Rattle.meaning.specs.JoiningOrder.{Run, Meets}
@@ -28,10 +27,10 @@ use Rattle.demands.specs.Demands.{Fits, TurnedBack, Demand1, Demand2, Demand3, D
 never : {A : Type 0} {r : ℕ × ℕ} → ◌≡◌ {A = Option (ℕ × ℕ)} (some r) none → A
 never e = absurd (let z : ◌≡◌ {A = ℕ} 0 1 = cc in omega arith)
 
-no_name : (r : Repeated) → name_refusal r ≡ none → r ≡ Nowhere
+no_name : (r : Repeated) → name_refusal r ≡ none → r ≡ None
 unfolding name_refusal
-no_name Nowhere e = refl
-no_name (At p) e = never e
+no_name None e = refl
+no_name (Some p) e = never e
 
 first_none : (a b : Option (ℕ × ℕ)) → or_next a b ≡ none → a ≡ none
 first_none none b e = refl

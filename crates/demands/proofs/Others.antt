@@ -11,9 +11,8 @@ use lib.Seq.{get_or-take, get_or-drop}
 use borrow.Author.Tests.{ltb-true, ltb-false}
 use Rattle.record_bytes.specs.Bytes.{byte_at, word_at}
 use Rattle.names.specs.Names.{names_end, item_places, item_bytes}
-use Rattle.layout.specs.Layout.{layout_of}
+use Rattle.layout.specs.Layout.{Good, layout_of}
 use Rattle.trees.specs.Record.{item_slot_places}
-use Rattle.layout.specs.declared.Layout.TheVariants.{Good}
 use Rattle.meaning.specs.Promise.{Counts, Buffers, Accepted, in_slot, item_place, item_at}
 use Rattle.meaning.proofs.Size.{Consecutive, items_follow}
 use Rattle.demands.specs.Demands.{SlotByte}

@@ -7,11 +7,10 @@ use Rattle.types.specs.Table.{row_width, unfolded}
 use Rattle.fallible.specs.Outcome.{Outcome, refused, accepted, first_refusing}
 use Rattle.fallible.specs.Errors.{error_width}
 use Rattle.record_bytes.specs.Bytes.{byte_at}
-use Rattle.layout.specs.Layout.{layout_of}
+use Rattle.layout.specs.Layout.{Good, layout_of}
 use Rattle.names.specs.Names.{names_of, repeated_name}
 use Rattle.trees.specs.Record.{item_tree, item_slot_places}
-use Rattle.layout.specs.declared.Layout.TheVariants.{Good}
-use Rattle.names.specs.declared.Repeated.TheVariants.{Nowhere}
+use Rattle.std.specs.Prelude.{None}
 use Rattle.meaning.specs.Module.{item_types}
 use Rattle.meaning.specs.Promise.{work_width, Counts, counts_of, Buffers, Lengths, lengths_of, tests, wiped, Accepted}
 use Rattle.meaning.specs.Promise.{context_of, placed_errors_of, error_list_of, item_count, item_place, item_at, output_at, in_slot, slot_types}
@@ -21,7 +20,7 @@ use Rattle.type_check.specs.Post.{buffers_before, buffers_after}
 -- Demand 1. "A module file that meets the layout, repeats no name in its list and fits the buffers lent"
 pub record Fits (input : List ℕ) (lent : Lengths) : Type 0 where
   pub layout : layout_of input ≡ Good
-  pub names : repeated_name input ≡ Nowhere
+  pub names : repeated_name input ≡ None
   pub output : length input ≤ lent.output
   pub work : work_width * length (names_of input) ≤ lent.work
   pub rows : row_width * (counts_of input).rows ≤ lent.rows

@@ -4,13 +4,14 @@
 ghost use Rattle.type_check.specs.Post.{outcome_of};
 ghost use Rattle.demands.specs.Demands.{run_of, Demands};
 
-use type_check::{Answer, type_check_module};
+use refusal::Refusal;
+use type_check::{Counts, type_check_module};
 
 // The answers of two calls.
-#[derive(Clone, Copy)]
+#[derive(Clone, Copy, Debug, PartialEq, Eq)]
 pub struct Answers {
-    pub first: Answer,
-    pub second: Answer,
+    pub first: Result<Counts, Refusal>,
+    pub second: Result<Counts, Refusal>,
 }
 
 // Checks two modules, each with buffers of its own.

@@ -1,29 +1,22 @@
 -- The texts of operators: one byte, or two that are the same. Assumes nothing.
-use Prim.Native.Nat.{ℕ, suc, ◌+◌, ◌-◌, ◌≤◌, ◌<◌}
+use Prim.Native.Nat.{ℕ, ◌+◌, ◌-◌, ◌≤◌, ◌<◌}
 use native.Mathlib.Omega.{arith}
 use native.Mathlib.Decide.{dec_le}
 use mathlib.Core.Path.{◌≡◌, refl, sym, ap, ◌∙◌, subst}
-use mathlib.Core.Bool.{Bool, true, false, cond}
+use mathlib.Core.Bool.{Bool, true, cond}
 use mathlib.Core.List.{List, [], ◌∷◌}
-use borrow.Author.Tests.{lt-ltb, le-ltb, leb-true, leb-false}
-use lib.Dec.{ltb, leb}
-use lib.ListN.{length, get_or, set}
-use lib.Seq.{sets}
+use borrow.Author.Tests.{lt-ltb, le-ltb}
+use lib.Dec.{ltb}
+use lib.ListN.{length, get_or, replicate, take, drop, length-drop}
+use lib.Seq.{length-take-le}
+use borrow.Rule.Slice.PartMut.{put_mid}
 use Rattle.literal.proofs.Digit.{passes_below, passed}
-use Rattle.rows.specs.Search.{Decides}
-use Rattle.rows.proofs.Decide.{fails}
 use Rattle.names.specs.Names.{same_bytes}
 use Rattle.names.proofs.NameLaws.{same_true}
 use Rattle.text.specs.Text.{ascii}
 use Rattle.text.specs.Written.{Fits, Written}
+use Rattle.text.proofs.Writing.{copied}
 use Rattle.descriptions.specs.Descriptions.{operator_text, IsOperator}
-
-module _ (operator : ℕ) where
-  pub under : operator < 1 → Decides (IsOperator operator) false
-  under p = fails (λ h. omega (arith, h.low))
-
-  pub up_to_last : 1 ≤ operator → Decides (IsOperator operator) (leb operator 9)
-  up_to_last p = record { yes = λ e. record { low = p; high = leb-true operator 9 e }; no = λ e h. let l : 9 < operator = leb-false operator 9 e in omega (arith, h.high) }
 
 -- The byte of each
 abbrev symbols : List ℕ
@@ -73,20 +66,24 @@ module _ (operator : ℕ) (is : IsOperator operator) where
   pub at_most_two : length (operator_text operator) ≤ 2
   at_most_two = lengths.1
 
-  module _ (text : List ℕ) (at : ℕ) (fits : Fits (operator_text operator) text at) where
-    pub room : at < length text
-    room = omega (arith, lengths.0, fits.room)
+  -- As many times its byte as it is long
+  repeated : operator_text operator ≡ replicate (length (operator_text operator)) (get_or symbols operator 0)
+  repeated =
+      elim (dec_le 7 operator) [
+        | yes h ↦ let l = length_two h in rw (← l) (two h)
+        | no h ↦ let l = length_one (omega arith) in rw (← l) (one (omega arith))
+      ]
 
-    pub room_for_two : 7 ≤ operator → at + 1 < length text
-    room_for_two h = let l = length_two h in omega (arith, fits.room)
-
-  module _ (text : List ℕ) (at : ℕ) where
-    pub written_one : operator < 7 → Written (operator_text operator) text (set text at (get_or symbols operator 0)) at (at + 1)
-    written_one h = let l = length_one h in record { stored = ap (sets text at) (sym (one h)); next = omega arith }
-
-    pub written_two : 7 ≤ operator
-        → Written (operator_text operator) text (set (set text at (get_or symbols operator 0)) (at + 1) (get_or symbols operator 0)) at (at + 2)
-    written_two h =
-        let l = length_two h in
-        let e : at + 1 ≡ suc at = omega arith in
-        record { stored = rw e (ap (sets text at) (sym (two h))); next = omega arith }
+  -- A part that is as long, filled with its byte
+  pub written : (text : List ℕ) (at : ℕ) → Fits (operator_text operator) text at → (long : ℕ) → long ≡ length (operator_text operator) → (filled : List ℕ)
+      → filled ≡ replicate (length (take (at + long - at) (drop at text))) (get_or symbols operator 0)
+      → Written (operator_text operator) text (put_mid at (at + long - at) text filled) at (at + long)
+  written text at fits long long-is filled filled-is =
+      let same : at + long - at ≡ length (operator_text operator) = omega arith in
+      let left : length (drop at text) ≡ length text - at = length-drop at text in
+      let part : length (take (at + long - at) (drop at text)) ≡ length (operator_text operator) = length-take-le (at + long - at) (drop at text) (omega (arith, fits.room)) ∙ same in
+      let is : filled ≡ operator_text operator = filled-is ∙ ap (λ (n : ℕ). replicate n (get_or symbols operator 0)) part ∙ sym repeated in
+      record {
+        stored = ap (put_mid at (at + long - at) text) is ∙ copied (operator_text operator) text at (at + long - at) (omega arith) fits.room;
+        next = omega arith;
+      }

@@ -8,8 +8,10 @@ ghost use Rattle.rows.specs.Search.{Decides};
 ghost use Rattle.descriptions.specs.Descriptions.{piece_of, word_of, operator_text, IsOperator};
 ghost use Rattle.descriptions.specs.Descriptions.{all_lines, LineStands};
 
+use std::ops::Range;
+
 // What a byte of a description stands for: itself, or what is printed in its place.
-#[derive(Clone, Copy)]
+#[derive(Clone, Copy, Debug, PartialEq, Eq)]
 pub enum Piece {
     Fixed,
     Name,
@@ -34,13 +36,9 @@ pub fn piece_of(byte: u8) -> Piece
     ensures { result ≡ piece_of byte }
 {
     match byte {
-        b'N' => Piece::Name,
-        b'M' => Piece::Name,
-        b'T' => Piece::Row,
-        b'U' => Piece::Row,
-        b'V' => Piece::Row,
-        b'P' => Piece::Number,
-        b'Q' => Piece::Number,
+        b'N' | b'M' => Piece::Name,
+        b'T' | b'U' | b'V' => Piece::Row,
+        b'P' | b'Q' => Piece::Number,
         b'O' => Piece::Operator,
         b'B' => Piece::BuiltIn,
         b'L' => Piece::Literal,
@@ -53,15 +51,8 @@ pub fn word_of(byte: u8) -> usize
     ensures { (result ≡ word_of byte) × (result < error_width) }
 {
     match byte {
-        b'N' => FIRST_OPERAND,
-        b'M' => SECOND_OPERAND,
-        b'T' => FIRST_OPERAND,
-        b'U' => SECOND_OPERAND,
+        b'M' | b'U' | b'Q' => SECOND_OPERAND,
         b'V' => THIRD_OPERAND,
-        b'P' => FIRST_OPERAND,
-        b'Q' => SECOND_OPERAND,
-        b'O' => FIRST_OPERAND,
-        b'B' => FIRST_OPERAND,
         b'L' => LITERAL_PLACE,
         _ => FIRST_OPERAND,
     }
@@ -79,10 +70,7 @@ const SYMBOLS: [u8; 10] = *b"\0+-*&^|<>=";
 pub fn is_operator(operator: u32) -> bool
     ensures { Decides (IsOperator operator) result }
 {
-    if operator < 1 {
-        return false;
-    }
-    operator <= LAST
+    matches!(operator, 1..=LAST)
 }
 
 // The length of an operator's text.
@@ -90,10 +78,7 @@ pub fn operator_length(operator: u32) -> u32
     requires { IsOperator operator }
     ensures { result ≡ length (operator_text operator) }
 {
-    if operator < FIRST_OF_TWO {
-        return 1;
-    }
-    2
+    if operator < FIRST_OF_TWO { 1 } else { 2 }
 }
 
 // Writes an operator, and returns the place behind it.
@@ -102,14 +87,9 @@ pub fn put_operator(text: &mut [u8], at: usize, operator: u32) -> usize
     requires fits { Fits (operator_text operator) text.old at }
     ensures { Written (operator_text operator) text.old text.new at result }
 {
-    let symbols = SYMBOLS;
-    let symbol = symbols[operator as usize];
-    text[at] = symbol;
-    if operator < FIRST_OF_TWO {
-        return at + 1;
-    }
-    text[at + 1] = symbol;
-    at + 2
+    let end = at + (operator_length(operator) as usize);
+    text[at..end].fill(SYMBOLS[operator as usize]);
+    end
 }
 
 // The lines of all kinds, one after the other: the description of each, and a line feed. How many bytes they are.
@@ -153,13 +133,6 @@ const STARTS: [usize; KINDS + 1] = [
     728, 782, 855, 929, 962, 1016, 1089, 1139, 1199, 1250, 1293,
 ];
 
-// Where the line of a kind stands among the lines.
-#[derive(Clone, Copy)]
-pub struct Bounds {
-    pub start: usize,
-    pub end: usize,
-}
-
 // The lines of all kinds.
 pub fn all_lines() -> [u8; LENGTH]
     ensures { result ≡ all_lines }
@@ -167,16 +140,14 @@ pub fn all_lines() -> [u8; LENGTH]
     LINES
 }
 
-// Where the line of a kind stands; a kind that is not in the table has an empty one.
-pub fn line_bounds(kind: u32) -> Bounds
+// Where the line of a kind stands; a kind that is not in the table has an empty one. No `Option`: `LineStands` promises an
+// empty line.
+pub fn line_bounds(kind: u32) -> Range<usize>
     ensures { LineStands kind result.start result.end }
 {
     let number = kind as usize;
     if KINDS <= number {
-        return Bounds { start: 0, end: 0 };
+        return 0..0;
     }
-    let starts = STARTS;
-    let start = starts[number];
-    let end = starts[number + 1];
-    Bounds { start, end }
+    STARTS[number]..STARTS[number + 1]
 }

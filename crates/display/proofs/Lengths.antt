@@ -2,9 +2,9 @@
 use Prim.Native.Nat.{ℕ, zero, suc, ◌+◌, ◌-◌, ◌≤◌}
 use native.Mathlib.Omega.{arith}
 use native.Mathlib.Numerals.{add-one}
-use mathlib.Core.Path.{◌≡◌, refl, sym, ap, ◌∙◌}
+use mathlib.Core.Path.{◌≡◌, sym, ap, ◌∙◌}
 use mathlib.Core.List.{List}
-use lib.ListN.{length, get_or}
+use lib.ListN.{length}
 use lib.Dec.{eqb}
 use Rattle.types.specs.Ty.{kind_of}
 use Rattle.types.specs.Table.{unfolded}
@@ -22,10 +22,6 @@ pub held_length : (names : NameTexts) (w : List ℕ) (m : ℕ) (work : List ℕ)
 unfolding text_length type_text
 held_length names w m work held zero low = sym (ap (text_length names) (unfolded_zero w))
 held_length names w m work held (suc n) low = held n (omega arith) ∙ ap (λ (i : ℕ). text_length names (unfolded w i)) (add-one n)
-
-pub length_of_row : (work : List ℕ) (n : ℕ) → (n ≡ 0 → ⊥) → get_or work (n - 1) 0 ≡ length_at work n
-length_of_row work zero other = absurd (other refl)
-length_of_row work (suc n) other = let e : suc n - 1 ≡ n = omega arith in rw e
 
 -- Row n's, from those of the rows before it
 pub row_measured : (s built_in places w : List ℕ) (count n : ℕ) (work : List ℕ) → Measured s built_in places w count (n - 1) work → 1 ≤ n → n ≤ count

@@ -1,7 +1,6 @@
 pub mod Naming
 pub mod PartRows
 pub mod Openings
-pub mod Middles
 pub mod Whole
 pub mod Lengths
 pub mod Filling

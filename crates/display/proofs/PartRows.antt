@@ -7,10 +7,11 @@ use mathlib.Core.List.{List}
 use borrow.Author.Tests.{eq-eqb, ne_eqb, lt-ltb, le-ltb}
 use lib.Dec.{eqb, ltb}
 use Rattle.types.specs.Ty.{Ty, end, kind_of, first_of, second_of, pointer_kind, struct_kind, function_kind, distinct_kind, field_kind}
-use Rattle.types.specs.Ty.{argument_kind}
+use Rattle.types.specs.Ty.{unknown_kind}
 use Rattle.types.specs.Table.{Table, unfolded}
 use Rattle.types.specs.Post.{TypePart, CellPart}
-use Rattle.types.proofs.Laws.{unfolded_zero}
+use Rattle.types.proofs.Laws.{unfolded_zero, row_ok}
+use Rattle.types.proofs.Query.{kind_of_lem}
 use Rattle.display.specs.Parts.{first_in, second_in, PartRow}
 
 -- No part
@@ -18,6 +19,10 @@ none : (w : List ℕ) (count n : ℕ) (t : Ty) → 1 ≤ n → t ≡ end → Par
 none w count n t low e = record { lower = omega arith; row = omega arith; type = unfolded_zero w ∙ sym e }
 
 module _ (w : List ℕ) (count n : ℕ) (table : Table w count) (low : 1 ≤ n) (high : n ≤ count) (k : ℕ) (k-is : k ≡ kind_of (unfolded w n)) where
+  -- The kinds begin with 1
+  pub first_kind : unknown_kind ≤ k
+  first_kind = let e = k-is ∙ kind_of_lem w count table n low high in omega (arith, (row_ok w count table n low high).kind_low)
+
   no_kind : (j : ℕ) → (k ≡ j → ⊥) → eqb (kind_of (unfolded w n)) j ≡ false
   no_kind j f = ne_eqb (kind_of (unfolded w n)) j (λ e. f (k-is ∙ e))
 
@@ -61,19 +66,10 @@ module _ (w : List ℕ) (count n : ℕ) (table : Table w count) (low : 1 ≤ n) 
         celled p _ _ _ part
         (first_at false false false (above pointer_kind l) (no_kind function_kind (λ e. omega arith)) (no_kind distinct_kind (λ e. omega arith)))
 
-    pub first_arguments : k ≡ function_kind → (p : ℕ) → CellPart w count n argument_kind (second_of (unfolded w n)) p
-        → PartRow w count n p (first_in (unfolded w n))
-    first_arguments h p part =
-        celled p _ _ _ part
-        (first_at false true false (above pointer_kind l) (is_kind function_kind h) (no_kind distinct_kind (λ e. omega arith)))
-
     pub first_type_lem : (k ≡ function_kind → ⊥) → (k ≡ distinct_kind → ⊥) → (p : ℕ) → TypePart w count n (first_of (unfolded w n)) p
         → PartRow w count n p (first_in (unfolded w n))
     first_type_lem f d p part =
         typed p _ _ part (first_at false false false (above pointer_kind l) (no_kind function_kind f) (no_kind distinct_kind d))
-
-  pub second_returned : k ≡ function_kind → (p : ℕ) → TypePart w count n (first_of (unfolded w n)) p → PartRow w count n p (second_in (unfolded w n))
-  second_returned h p part = typed p _ _ part (second_at true true (is_kind function_kind h) (below field_kind (omega arith)))
 
   pub second_low : (k ≡ function_kind → ⊥) → k < field_kind → PartRow w count n 0 (second_in (unfolded w n))
   second_low f h = none w count n _ low (second_at false true (no_kind function_kind f) (below field_kind h))

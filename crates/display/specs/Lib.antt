@@ -3,3 +3,4 @@ pub mod Names
 pub mod Length
 pub mod Parts
 pub mod Write
+pub mod Sources

@@ -55,10 +55,7 @@ fn find_break(s: &[u8], node: Node) -> bool
     ensures { result ≡ find_break (statement_at s.now node.depth node.at) }
 {
     let inner = inner_statements(s, node);
-    if inner.kind == BREAK {
-        return true;
-    }
-    find_break_in(s, children(inner))
+    inner.kind == BREAK || find_break_in(s, children(inner))
 }
 
 // The same for statements.
@@ -68,13 +65,14 @@ fn find_break_in(s: &[u8], statements: Nodes) -> bool
     ensures { result ≡ find_break (statements_at s.now statements.depth statements.from statements.end) }
 {
     let depth = statements.depth;
+    // from record to record by the lengths in the file: no index counts them
     let mut at = statements.from;
     while at < statements.end {
         let node = Node { at, depth };
         if find_break(s, node) {
             return true;
         }
-        at = at + length_at(s, at);
+        at += length_at(s, at);
     }
     false
 }
@@ -120,13 +118,14 @@ fn any_path_diverges(s: &[u8], statements: Nodes) -> bool
         (statements_at s.now statements.depth statements.from statements.end) }
 {
     let depth = statements.depth;
+    // the same walk as in `find_break_in`, written out: each loop is part of its own recursion
     let mut at = statements.from;
     while at < statements.end {
         let node = Node { at, depth };
         if do_all_paths_diverge(s, node) {
             return true;
         }
-        at = at + length_at(s, at);
+        at += length_at(s, at);
     }
     false
 }

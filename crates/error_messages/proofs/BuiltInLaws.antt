@@ -3,14 +3,12 @@ use Prim.Native.Nat.{ℕ, ◌≤◌, ◌<◌}
 use native.Mathlib.Omega.{arith}
 use Prim.Native.String.{String}
 use mathlib.Core.Path.{◌≡◌, refl, sym, ap, ◌∙◌}
-use mathlib.Core.Bool.{Bool, true, false, cond, false≢true}
+use mathlib.Core.Bool.{Bool, true, false, cond, ◌||◌, false≢true}
 use mathlib.Core.Option.{Option, none, some}
 use mathlib.Core.List.{List, []}
-use mathlib.Core.Logic.{inr}
 use borrow.Author.Tests.{ne_eqb}
 use lib.ListN.{length, get_or}
 use Rattle.rows.specs.Search.{Decides}
-use Rattle.rows.proofs.Decide.{holds, fails}
 use Rattle.types.specs.Ty.{Ty, u16, i16, bool, string, string_name}
 use Rattle.layout.specs.Layout.{max_bytes}
 use Rattle.names.specs.Names.{same_bytes, names_of, name_count}
@@ -20,9 +18,16 @@ use Rattle.meaning.specs.Context.{is_some}
 use Rattle.meaning.specs.Promise.{primitive_type, built_in_types, built_ins_of}
 use Rattle.text.specs.Text.{ascii}
 use Rattle.display.specs.Display.{NameTexts, type_text}
-use Rattle.display.specs.Names.{name_text, NameExists}
+use Rattle.display.specs.Names.{name_text}
 use Rattle.descriptions.specs.declared.Piece.TheVariants.{BuiltIn}
 use Rattle.error_messages.specs.Description.{inputs, option_text, text_of, ExistsAs}
+
+-- Tests that are joined, the one after the other
+pub or_true : {x a : Bool} (b : Bool) → x ≡ true → x ≡ a → x ≡ (a || b)
+or_true b e p = e ∙ ap (λ (y : Bool). y || b) (sym e ∙ p)
+
+pub or_false : {x a : Bool} (b : Bool) → x ≡ false → x ≡ a → b ≡ (a || b)
+or_false b e p = ap (λ (y : Bool). y || b) (sym e ∙ p)
 
 u16_text : (names : NameTexts) → ascii "u16" ≡ type_text names u16
 unfolding type_text
@@ -37,12 +42,6 @@ unfolding type_text
 bool_text names = refl
 
 module _ (s built_in : List ℕ) (name : ℕ) (small : length s ≤ max_bytes) where
-  pub past : (names : ℕ) → names ≡ name_count s → names ≤ name → Decides (ExistsAs (inputs s built_in [] 0) BuiltIn name) false
-  past names many p = fails (λ h. omega (arith, h.0))
-
-  pub name_exists : (names : ℕ) → names ≡ name_count s → name < names → NameExists s name
-  name_exists names many p = inr (omega arith)
-
   -- The bytes of a name of the module
   module _ (text : List ℕ) (text_is : text ≡ name_text s built_in name) where
     abbrev is : String → Bool
@@ -50,6 +49,13 @@ module _ (s built_in : List ℕ) (name : ℕ) (small : length s ≤ max_bytes) w
 
     abbrev chosen : (a b c d : Bool) → Option Ty
     chosen a b c d = cond a (some u16) (cond b (some i16) (cond c (some bool) (cond d (some string) none)))
+
+    some_chosen : (a b c d : Bool) → is_some (chosen a b c d) ≡ (((a || b) || c) || d)
+    some_chosen true b c d = refl
+    some_chosen false true c d = refl
+    some_chosen false false true d = refl
+    some_chosen false false false true = refl
+    some_chosen false false false false = refl
 
     own : name < name_count s → text ≡ get_or (names_of s) name []
     unfolding name_text
@@ -64,27 +70,10 @@ module _ (s built_in : List ℕ) (name : ℕ) (small : length s ≤ max_bytes) w
       low : name < name_count s
       low = omega arith
 
-      type_is : (a b c d : Bool) → a ≡ is "u16" → b ≡ is "i16" → c ≡ is "bool" → d ≡ is "String" → built_ins_of s name ≡ chosen a b c d
-      type_is a b c d p q r t = named low ∙ (λ i. chosen (sym p i) (sym q i) (sym r i) (sym t i))
-
-      module _ (a : Bool) (p : a ≡ is "u16") where
-        pub first : a ≡ true → Decides (ExistsAs (inputs s built_in [] 0) BuiltIn name) true
-        first e = holds (low, ap is_some (type_is true (is "i16") (is "bool") (is "String") (sym e ∙ p) refl refl refl))
-
-        module _ (f : a ≡ false) (b : Bool) (q : b ≡ is "i16") where
-          pub second : b ≡ true → Decides (ExistsAs (inputs s built_in [] 0) BuiltIn name) true
-          second e = holds (low, ap is_some (type_is false true (is "bool") (is "String") (sym f ∙ p) (sym e ∙ q) refl refl))
-
-          module _ (g : b ≡ false) (c : Bool) (r : c ≡ is "bool") where
-            pub third : c ≡ true → Decides (ExistsAs (inputs s built_in [] 0) BuiltIn name) true
-            third e = holds (low, ap is_some (type_is false false true (is "String") (sym f ∙ p) (sym g ∙ q) (sym e ∙ r) refl))
-
-            pub last : c ≡ false → (d : Bool) → d ≡ is "String" → Decides (ExistsAs (inputs s built_in [] 0) BuiltIn name) d
-            last h d t = go d (ap is_some (type_is false false false d (sym f ∙ p) (sym g ∙ q) (sym h ∙ r) t))
-              where
-                go : (d : Bool) → is_some (built_ins_of s name) ≡ is_some (chosen false false false d) → Decides (ExistsAs (inputs s built_in [] 0) BuiltIn name) d
-                go true e = holds (low, e)
-                go false e = fails (λ x. absurd (false≢true (sym e ∙ x.1)))
+      pub decided : (r : Bool) → r ≡ (((is "u16" || is "i16") || is "bool") || is "String") → Decides (ExistsAs (inputs s built_in [] 0) BuiltIn name) r
+      decided r r-is =
+          let some = ap is_some (named low) ∙ some_chosen (is "u16") (is "i16") (is "bool") (is "String") ∙ sym r-is in
+          record { yes = λ e. (low, some ∙ e); no = λ e h. absurd (false≢true (sym e ∙ sym some ∙ h.1)) }
 
     -- The text of the type: the name, but for String
     module _ (exists : ExistsAs (inputs s built_in [] 0) BuiltIn name) (d : Bool) (t : d ≡ is "String") where

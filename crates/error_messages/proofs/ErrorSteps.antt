@@ -17,7 +17,7 @@ use Rattle.error_messages.specs.Description.{Inputs, inputs, description_of, Rea
 use Rattle.error_messages.specs.Messages.{messages_of}
 use Rattle.error_messages.specs.Inner.{error_in}
 use Rattle.error_messages.proofs.Steps.{Left, left_start, left_fits, left_exists, left_more, left_done}
-use Rattle.error_messages.proofs.Steps.{Counted, count_start, count_exists, count_more, count_done, Tested, test_start, test_more, test_no, test_done}
+use Rattle.error_messages.proofs.Steps.{Counted, count_exists, count_more, count_done, Tested, test_more, test_no, test_done}
 use Rattle.error_messages.proofs.Words.{words_from, errors_more, errors_none, errors_all}
 
 -- The errors from number i on are what is left
@@ -53,12 +53,6 @@ module _ (s built_in rows : List ℕ) (count : ℕ) (errors : List ℕ) (many : 
   pub writing_start : All (Readable x) (errors_from errors 0 many) → (text : List ℕ) → Fits (messages_of x errors many) text 0 → ErrorsWriting text text 0 0
   unfolding messages_of
   writing_start readable text fits = start_left _ errors many (left_start _ _ _ text 0 readable fits)
-
-  pub counting_start : All (Readable x) (errors_from errors 0 many) → ErrorsCounting 0 0
-  counting_start readable = start_left _ errors many (count_start _ _ _ readable)
-
-  pub testing_start : ErrorsTesting 0
-  testing_start = start_left _ errors many (test_start _ _)
 
   module _ (i : ℕ) where
     -- The error at i

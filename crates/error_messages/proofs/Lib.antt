@@ -5,6 +5,5 @@ pub mod PieceLaws
 pub mod BuiltInLaws
 pub mod RowNames
 pub mod ErrorSteps
-pub mod SoundLaws
 pub mod Answers
 pub mod Examples

@@ -5,7 +5,6 @@ use denote.Triple.Both.{Both}
 use Rattle.contract.specs.Moments.{old, final}
 use Rattle.types.specs.Ty.{string_name, kind_of, name_of, alias_kind, field_kind}
 use Rattle.types.specs.Table.{row_width, unfolded}
-use Rattle.fallible.specs.Outcome.{Outcome, refused, accepted}
 use Rattle.fallible.specs.Errors.{error_of}
 use Rattle.fallible.specs.declared.Error.{Error}
 use Rattle.names.specs.Names.{name_count}
@@ -13,16 +12,17 @@ use Rattle.layout.specs.Layout.{max_bytes}
 use Rattle.listing.specs.Names.{NamesListed}
 use Rattle.listing.specs.Literals.{Marked}
 use Rattle.display.specs.Length.{Measured}
+use Rattle.display.specs.declared.Source.{Source}
 use Rattle.error_messages.specs.Description.{Inputs, inputs}
 use Rattle.error_messages.specs.Messages.{Loan}
-use Rattle.error_messages.specs.declared.Answer.{Answer}
-use Rattle.error_messages.specs.declared.Answer.TheVariants.{Written, Refused}
+-- The number of the refusal and its place, or the length, of each case of the answer
+pub use Rattle.refusal.specs.Refusal.{outcome_of}
 
--- What messages are printed from, in a `requires`
-abbrev pub given_inputs : (s built_in rows : List ℕ) → (count : ℕ) → Inputs
-given_inputs s built_in rows count = inputs s built_in rows count
+-- What messages are printed from
+abbrev pub inputs_of : Source → Inputs
+inputs_of source = inputs source.s.now source.built_in.now source.rows.now source.count
 
--- and in an `ensures`
+-- and as the entry is lent it
 abbrev pub old_inputs : (s built_in rows : List ℕ) → (count : ℕ) → Inputs
 old_inputs s built_in rows count = inputs s built_in rows count
 
@@ -58,8 +58,3 @@ loan_before text work = loan (old text) (old work)
 -- and at exit
 abbrev pub loan_after : (text work : Both (MutBor (List ℕ)) (MutBor (List ℕ))) → Loan
 loan_after text work = loan (final text) (final work)
-
--- The number of the refusal and its place, or the length, of each case of the answer
-abbrev pub outcome_of : Answer → Outcome ℕ
-outcome_of (Written length) = accepted length
-outcome_of (Refused number place) = refused number place

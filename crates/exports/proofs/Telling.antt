@@ -1,6 +1,6 @@
 -- What is told of an answer, from the promise that the crate below keeps.
 use Prim.Native.Nat.{ℕ, ◌*◌}
-use mathlib.Core.Path.{◌≡◌, refl, sym, ap, subst, ◌∙◌}
+use mathlib.Core.Path.{◌≡◌, refl}
 use mathlib.Core.Bool.{Bool, true, false, ◌||◌}
 use mathlib.Core.Option.{Option, none, some}
 use lib.Dec.{ltb}
@@ -11,22 +11,12 @@ use mathlib.Core.List.{List, [], ◌∷◌}
 use Rattle.types.specs.Table.{row_width}
 use Rattle.fallible.specs.Outcome.{accepted, or_next, first_refusing, outcome_after}
 use Rattle.fallible.specs.Errors.{error_width}
-use Rattle.layout.specs.Layout.{layout_of, layout_refusal}
-use Rattle.names.specs.Names.{names_of, repeated_name, name_refusal}
-use Rattle.layout.specs.declared.Layout.{Layout}
-use Rattle.layout.specs.declared.Layout.TheVariants.{Good, TooLong, Fault, TooDeep}
-use Rattle.names.specs.declared.Repeated.{Repeated}
-use Rattle.names.specs.declared.Repeated.TheVariants.{Nowhere, At}
-use Rattle.meaning.specs.Promise.{work_width, Counts, Lengths, Buffers, Checked, answer_of, counts_of, refuse_if}
-use Rattle.type_check.specs.Post.{outcome_of}
-use Rattle.type_check.specs.declared.Answer.{Answer}
-use Rattle.exports.specs.Replies.{ModuleTold, reply_of, refusal_number}
-
--- the check's answer, in the case that was found
-pub module_told : {input : List ℕ} {before after : Buffers} {answer found : Answer} → answer ≡ found → Checked input before after (outcome_of answer)
-    → ModuleTold input before after (reply_of (outcome_of found))
-module_told {input} {before} {after} eq h =
-    record { checked = subst (Checked input before after) h.answers h; tells = ap reply_of (sym (ap outcome_of eq) ∙ h.answers) }
+use Rattle.layout.specs.Layout.{Layout, layout_of, layout_refusal}
+use Rattle.names.specs.Names.{names_of, Repeated, repeated_name, name_refusal}
+use Rattle.layout.specs.declared.LayoutError.TheVariants.{TooLong, Fault, TooDeep}
+use Rattle.std.proofs.Common.{Some, None, Ok, Err}
+use Rattle.meaning.specs.Promise.{work_width, Counts, Lengths, answer_of, counts_of, refuse_if}
+use Rattle.exports.specs.Replies.{refusal_number}
 
 -- the number of a refusal is not 0
 abbrev positive : Option (ℕ × ℕ) → Bool
@@ -35,15 +25,15 @@ positive (some r) = ltb 0 r.0
 
 layout_positive : (l : Layout) → positive (layout_refusal l) ≡ true
 unfolding layout_refusal
-layout_positive Good = refl
-layout_positive TooLong = refl
-layout_positive (Fault p) = refl
-layout_positive (TooDeep p) = refl
+layout_positive (Ok u) = refl
+layout_positive (Err TooLong) = refl
+layout_positive (Err (Fault p)) = refl
+layout_positive (Err (TooDeep p)) = refl
 
 name_positive : (r : Repeated) → positive (name_refusal r) ≡ true
 unfolding name_refusal
-name_positive Nowhere = refl
-name_positive (At p) = refl
+name_positive None = refl
+name_positive (Some p) = refl
 
 if_positive : (b : Bool) (number : ℕ) → ltb 0 number ≡ true → positive (refuse_if b number) ≡ true
 if_positive true number h = h

@@ -8,16 +8,37 @@ ghost use Rattle.types.specs.Table.{unfolded};
 ghost use Rattle.relations.specs.Relations.{types_are_assignable};
 ghost use Rattle.relations.specs.WordSize.{as_word};
 ghost use Rattle.queries.specs.CastSearch.{cast_search};
-ghost use Rattle.queries.specs.Entry.{answered_of, searched_of, measured_of};
+ghost use Rattle.refusal.specs.Refusal.{outcome_of};
 ghost use Rattle.type_check.specs.Post.{buffers_before, buffers_after};
-ghost use Rattle.error_messages.specs.Inner.{old_inputs, loan_before, loan_after, outcome_of as textOutcome};
-ghost use Rattle.exports.specs.Replies.{ModuleTold, AnswerTold, CastTold, SizeTold, reply, refusal_number, value_of};
-ghost use Rattle.exports.specs.Replies.{MessagesTold, text_length, refusal_place, as_number, fits_number, pairs_number};
+ghost use Rattle.error_messages.specs.Inner.{old_inputs, loan_before, loan_after};
+ghost use Rattle.exports.specs.Replies.{ModuleTold, MessagesTold, AnswerTold, CastTold, SizeTold};
+ghost use Rattle.exports.specs.Replies.{reply, refusal_number, refusal_place};
 
-use queries::{CastAnswer, Measured};
+use queries::CastSearch;
+use refusal::Refusal;
 use relations::WordSize;
 use size_words::{TOO_LARGE_WORD, UNKNOWN_WORD};
-use type_check::Answer;
+use type_check::Counts;
+
+// The number of the refusal, or 0.
+fn number_of<T>(given: &Result<T, Refusal>) -> u32
+    ensures { result ≡ refusal_number (outcome_of given.now) }
+{
+    match given {
+        Ok(_) => 0,
+        Err(cause) => cause.number(),
+    }
+}
+
+// The place of the refusal, or 0.
+fn place_of<T>(given: &Result<T, Refusal>) -> usize
+    ensures { result ≡ refusal_place (outcome_of given.now) }
+{
+    match given {
+        Ok(_) => 0,
+        Err(cause) => cause.place(),
+    }
+}
 
 // Checks a module: `type_check_module` of the crate type_check.
 #[unsafe(no_mangle)]
@@ -36,44 +57,12 @@ pub extern "C" fn delta_null_type_check_module(
         (buffers_after output rows errors work)
         (reply result row_count.new error_count.new place.new) }
 {
-    let answer = type_check::type_check_module(input, output, rows, errors, work);
-    match answer {
-        Answer::Accepted { rows, errors } => {
-            *row_count = rows;
-            *error_count = errors;
-            *place = 0;
-            0
-        }
-        Answer::Refused {
-            number,
-            place: found,
-        } => {
-            *row_count = 0;
-            *error_count = 0;
-            *place = found;
-            number
-        }
-    }
-}
-
-// The number of an answer of messages, with the length of the text or the place of the refusal.
-fn put_length(given: error_messages::Answer, length: &mut usize, place: &mut usize) -> u32
-    ensures { (result ≡ refusal_number (textOutcome given))
-        × (length.new ≡ value_of text_length (textOutcome given))
-        × (place.new ≡ refusal_place (textOutcome given)) }
-{
-    match given {
-        error_messages::Answer::Written(written) => {
-            *length = written;
-            *place = 0;
-            0
-        }
-        error_messages::Answer::Refused { number, place: at } => {
-            *length = 0;
-            *place = at;
-            number
-        }
-    }
+    let checked = type_check::type_check_module(input, output, rows, errors, work);
+    let counts = checked.unwrap_or(Counts { rows: 0, errors: 0 });
+    *row_count = counts.rows;
+    *error_count = counts.errors;
+    *place = place_of(&checked);
+    number_of(&checked)
 }
 
 // The messages of a module's errors: `messages` of the crate error_messages. The module is the input, as it was read.
@@ -95,7 +84,7 @@ pub extern "C" fn delta_null_messages<'a>(
         (loan_after text work)
         result length.new place.new }
 {
-    let given = error_messages::messages(
+    let written = error_messages::messages(
         input,
         rows,
         row_count,
@@ -105,30 +94,9 @@ pub extern "C" fn delta_null_messages<'a>(
         work,
         text,
     );
-    put_length(given, length, place)
-}
-
-// Yes is 1, no is 0.
-fn yes_word(yes: bool) -> u32
-    ensures { result ≡ as_number yes }
-{
-    if yes { 1 } else { 0 }
-}
-
-// The number of an answer of yes or no, which is written as 1 or 0.
-fn put_answer(given: queries::Answer, answer: &mut u32) -> u32
-    ensures { (result ≡ refusal_number (answered_of given)) × (answer.new ≡ value_of as_number (answered_of given)) }
-{
-    match given {
-        queries::Answer::Is(yes) => {
-            *answer = yes_word(yes);
-            0
-        }
-        queries::Answer::Refused => {
-            *answer = 0;
-            8
-        }
-    }
+    *length = written.unwrap_or(0);
+    *place = place_of(&written);
+    number_of(&written)
 }
 
 // Whether the type of row source may be assigned to that of row target: 1 or 0.
@@ -143,27 +111,9 @@ pub extern "C" fn delta_null_assignable(
     ensures { AnswerTold rows.now count target source
         (types_are_assignable (unfolded rows.now target) (unfolded rows.now source)) result answer.new }
 {
-    put_answer(queries::assignable(rows, count, target, source), answer)
-}
-
-// The number of a cast's answer, which is written as 1 or 0 with the number of pairs that were tried.
-fn put_cast(given: CastAnswer, answer: &mut u32, pairs: &mut u64) -> u32
-    ensures { (result ≡ refusal_number (searched_of given))
-        × (answer.new ≡ value_of fits_number (searched_of given))
-        × (pairs.new ≡ value_of pairs_number (searched_of given)) }
-{
-    match given {
-        CastAnswer::Searched(found) => {
-            *answer = yes_word(found.fits);
-            *pairs = found.pairs;
-            0
-        }
-        CastAnswer::Refused => {
-            *answer = 0;
-            *pairs = 0;
-            8
-        }
-    }
+    let given = queries::assignable(rows, count, target, source);
+    *answer = u32::from(given.unwrap_or(false));
+    number_of(&given)
 }
 
 // Whether the type of row source may be cast to that of row target, 1 or 0, and how many pairs were tried.
@@ -180,7 +130,13 @@ pub extern "C" fn delta_null_castable(
         (cast_search (unfolded rows.now source) (unfolded rows.now target)) result answer.new pairs.new }
 {
     let given = queries::castable(rows, count, source, target);
-    put_cast(given, answer, pairs)
+    let found = given.unwrap_or(CastSearch {
+        fits: false,
+        pairs: 0,
+    });
+    *answer = u32::from(found.fits);
+    *pairs = found.pairs;
+    number_of(&given)
 }
 
 // A size as one word: the words, 65,536 for too large, 65,537 for Unknown inside.
@@ -194,26 +150,12 @@ fn size_word(size: WordSize) -> u32
     }
 }
 
-// The number of an answer of a size, which is written as one word.
-fn put_size(given: Measured, size: &mut u32) -> u32
-    ensures { (result ≡ refusal_number (measured_of given)) × (size.new ≡ value_of as_word (measured_of given)) }
-{
-    match given {
-        Measured::Size(found) => {
-            *size = size_word(found);
-            0
-        }
-        Measured::Refused => {
-            *size = 0;
-            8
-        }
-    }
-}
-
 // How many words the type of row n has: the row's fifth word.
 #[unsafe(no_mangle)]
 pub extern "C" fn delta_null_word_size(rows: &[u32], count: u32, n: u32, size: &mut u32) -> u32
     ensures { SizeTold rows.now count n result size.new }
 {
-    put_size(queries::words(rows, count, n), size)
+    let given = queries::words(rows, count, n);
+    *size = given.map_or(0, size_word);
+    number_of(&given)
 }

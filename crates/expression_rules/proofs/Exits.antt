@@ -1,5 +1,5 @@
 -- The rules, a law for each exit. Assumes nothing.
-use Prim.Native.Nat.{ℕ, ◌+◌, ◌-◌, ◌<◌}
+use Prim.Native.Nat.{ℕ, ◌+◌, ◌-◌}
 use mathlib.Core.Path.{◌≡◌, refl, sym, ap, ◌∙◌, subst}
 use mathlib.Core.Bool.{Bool, true, false, not, or-false, true≢false}
 use mathlib.Core.List.{List}
@@ -11,15 +11,13 @@ use borrow.Author.Tests.{eq-eqb, ne_eqb}
 use Rattle.types.specs.Ty.{Ty, kind_of, first_of, is, is_integral, same, desugar, field_named, bool_kind, u16_kind, pointer_kind, array_kind}
 use Rattle.types.specs.Table.{unfolded}
 use Rattle.types.specs.Post.{TypePart, FoundType}
-use Rattle.types.specs.declared.Row.TheVariants.{Pointer}
 use Rattle.types.proofs.Fixed.{fixed_is, bool_row_lem}
 use Rattle.relations.specs.TypeRows.{OneType, TwoTypes}
 use Rattle.relations.specs.Relations.{is_integral_kind, types_are_assignable, is_castable_to}
 use Rattle.relations.proofs.CastLaws.{same_rows}
+use Rattle.std.specs.Prelude as code
 use Rattle.literal.specs.Literal.{from_str_radix, parsed_value}
-use Rattle.literal.specs.declared.Parsed.{Parsed}
-use Rattle.literal.specs.declared.Parsed.TheVariants.{Value, Invalid}
-use Rattle.record_bytes.specs.Bytes.{Read, half_at, word_at}
+use Rattle.record_bytes.specs.Bytes.{Read, word_at}
 use Rattle.trees.specs.Record.{location_at}
 use Rattle.fallible.specs.declared.Error.{Error}
 use Rattle.fallible.specs.Operands.{is_type_operand, operand_sort}
@@ -27,21 +25,18 @@ use Rattle.meaning.specs.TypeError.{row, error, unused, unless}
 use Rattle.meaning.specs.Context.{is_some, or_unknown}
 use Rattle.meaning.specs.Expression.{part_of, computes}
 use Rattle.walk.specs.declared.State.{State}
-use Rattle.walk.specs.declared.Typed.{Typed}
+use Rattle.walk.specs.Typed.{typed}
 use Rattle.walk.specs.Represents.{Shows, SpellsOperand}
-use Rattle.walk.specs.Post.{Reported, Makes, Tells}
+use Rattle.walk.specs.Post.{Reported, Tells}
 use Rattle.walk.proofs.Telling.{tells_one, tells_then, tells_rows}
 use Rattle.convert.specs.Post.{error_for}
 use Rattle.expression_rules.specs.Words.{or_unknown_row, resolved_word}
-use Rattle.expression_rules.specs.Rules.{ReportedUnless, Identifier, literal_error, Integer, digits_at, Unary, UnaryKept, Binary, Arithmetic, Cast, CheckAssignable}
+use Rattle.expression_rules.specs.Rules.{ReportedUnless, Identifier, literal_error, Integer, digits_at, UnaryKept, Binary, Arithmetic, Cast, CheckAssignable}
 use Rattle.expression_rules.proofs.Laws.{spells_at, tells_unless, tells_row, reported_none, reported_one}
 use Rattle.expression_rules.proofs.Found.{unknown_shown, found_test, found_shown}
 
 -- `part_of`
 module _ (w : List ℕ) (c kind ty k : ℕ) (one : OneType w c ty) (ek : k ≡ kind_of (unfolded w ty)) where
-  pub part_same : k ≡ kind → (r : ℕ) → TypePart w c ty (first_of (unfolded w ty)) r → Shows w c r (part_of kind (unfolded w ty))
-  part_same q r p = record { is = p.is; type = p.type ∙ rw (eq-eqb (kind_of (unfolded w ty)) kind (sym ek ∙ q)) refl }
-
   pub part_none : (k ≡ kind → ⊥) → Shows w c 1 (part_of kind (unfolded w ty))
   part_none q = rw (ne_eqb (kind_of (unfolded w ty)) kind (λ z. q (ek ∙ z))) (unknown_shown w c one.table)
 
@@ -55,16 +50,6 @@ module _ (w : List ℕ) (c left right : ℕ) (two : TwoTypes w c left right) (k 
   computes_integers p =
       let q : is_integral_kind (kind_of (unfolded w left)) ≡ true = ap (λ (n : ℕ). is_integral_kind n) (sym ek) ∙ sym eb ∙ p in
       same_rows w c left right two ∙ rw (q, integral_no_pointer (kind_of (unfolded w left)) q) (sym (or-false (same (unfolded w left) (unfolded w right))))
-
-  module _ (p : b ≡ false) where
-    no_integer : is_integral_kind (kind_of (unfolded w left)) ≡ false
-    no_integer = ap (λ (n : ℕ). is_integral_kind n) (sym ek) ∙ sym eb ∙ p
-
-    pub computes_neither : (k ≡ 6 → ⊥) → false ≡ computes (unfolded w left) (unfolded w right)
-    computes_neither q = rw (no_integer, ne_eqb (kind_of (unfolded w left)) 6 (λ z. q (ek ∙ z))) refl
-
-    pub computes_pointer : k ≡ 6 → (k' : ℕ) → k' ≡ kind_of (unfolded w right) → (r : Bool) → r ≡ is_integral_kind k' → r ≡ computes (unfolded w left) (unfolded w right)
-    computes_pointer q k' ek' r er = rw (no_integer, eq-eqb (kind_of (unfolded w left)) 6 (sym ek ∙ q)) (er ∙ ap (λ (n : ℕ). is_integral_kind n) ek')
 
 -- Operators on one operand
 module _ (s : List ℕ) (at ty : ℕ) (w e e' : List ℕ) (st st' : State) (one : OneType w st.rows ty) where
@@ -121,29 +106,6 @@ module _ (s : List ℕ) (at ty : ℕ) (w e e' : List ℕ) (st st' : State) (one 
             subst (λ (n : ℕ). FoundType w st.rows (field_named n (first_of (desugar (unfolded w ty)))) field) en
             (subst (λ (t : Ty). FoundType w st.rows (field_named name (first_of t)) field) part.type f)
 
--- A match on the kind
-module _ (kind : ℕ) (s : List ℕ) (at ty : ℕ) (w b e : List ℕ) (st : State) (r : Typed) where
-  pub pointer_as : kind ≡ 39 → (w' b' : List ℕ) → Makes (Pointer ty) w b st w' b' r → Unary kind s at ty w b e st w' b' e r
-  pointer_as q w' b' m = record { taken = λ p. (m, refl); kept = λ p. absurd (p q) }
-
-  other_as : (kind ≡ 39 → ⊥) → (e' : List ℕ) → UnaryKept kind s at ty w e st e' r → Unary kind s at ty w b e st w b e' r
-  other_as n e' u = record { taken = λ p. absurd (n p); kept = λ p. (refl, refl, u) }
-
-  unary_as : (k : ℕ) → 39 < k → kind ≡ k → (e' : List ℕ) → UnaryKept k s at ty w e st e' r → Unary kind s at ty w b e st w b e' r
-  unary_as k l q e' u = other_as (λ z. omega arith) e' (subst (λ (n : ℕ). UnaryKept n s at ty w e st e' r) (sym q) u)
-
-  pub dereference_as : kind ≡ 40 → (e' : List ℕ) → UnaryKept 40 s at ty w e st e' r → Unary kind s at ty w b e st w b e' r
-  dereference_as = unary_as 40 (omega arith)
-
-  pub field_as : kind ≡ 41 → (e' : List ℕ) → UnaryKept 41 s at ty w e st e' r → Unary kind s at ty w b e st w b e' r
-  field_as = unary_as 41 (omega arith)
-
-  pub bits_as : kind ≡ 42 → (e' : List ℕ) → UnaryKept 42 s at ty w e st e' r → Unary kind s at ty w b e st w b e' r
-  bits_as = unary_as 42 (omega arith)
-
-  pub unary_other : (kind ≡ 39 → ⊥) → (kind ≡ 40 → ⊥) → (kind ≡ 41 → ⊥) → (kind ≡ 42 → ⊥) → (e' : List ℕ) → UnaryKept 43 s at ty w e st e' r → Unary kind s at ty w b e st w b e' r
-  unary_other n39 n40 n41 n42 e' u = other_as n39 e' (rw (ne_eqb kind 39 n39, ne_eqb kind 40 n40, ne_eqb kind 41 n41, ne_eqb kind 42 n42) u)
-
 -- Operators on two operands
 module _ (s : List ℕ) (at left place right : ℕ) (w e e' : List ℕ) (st st' : State) (two : TwoTypes w st.rows left right) where
   left_own : Shows w st.rows left (unfolded w left)
@@ -196,15 +158,9 @@ module _ (s : List ℕ) (at left place right : ℕ) (w e e' : List ℕ) (st st' 
   unfolding is_type_operand operand_sort
   assigned b eb rep = tells_pair 8 refl refl refl (types_are_assignable (unfolded w left) (unfolded w right)) b eb rep
 
-module _ (kind : ℕ) (s : List ℕ) (at left place right : ℕ) (w e e' : List ℕ) (st : State) (r : Typed) where
-  pub binary_as : (k : ℕ) → kind ≡ k → Binary k s at left place right w e st e' r → Binary kind s at left place right w e st e' r
-  binary_as k q b = subst (λ (n : ℕ). Binary n s at left place right w e st e' r) (sym q) b
-
-  pub arithmetic_as : kind ≡ 45 → (operator : ℕ) → Read (word_at s (at + 20)) 32 operator → Arithmetic s at operator left right w e st e' r → Binary kind s at left place right w e st e' r
-  arithmetic_as q operator eo a = binary_as 45 q (subst (λ (n : ℕ). Arithmetic s at n left right w e st e' r) eo.is a)
-
-  pub compared : (kind ≡ 37 → ⊥) → (kind ≡ 44 → ⊥) → (kind ≡ 45 → ⊥) → TwoTypes w st.rows left right → Arithmetic s at 9 left right w e st e' r
-      → Binary kind s at left place right w e st e' (record { ty = 3; state = r.state })
+module _ (kind : ℕ) (s : List ℕ) (at left place right : ℕ) (w e e' : List ℕ) (st st' : State) (ty : ℕ) where
+  pub compared : (kind ≡ 37 → ⊥) → (kind ≡ 44 → ⊥) → (kind ≡ 45 → ⊥) → TwoTypes w st.rows left right → Arithmetic s at 9 left right w e st e' (typed ty st')
+      → Binary kind s at left place right w e st e' (typed 3 st')
   compared n37 n44 n45 two a =
       rw (ne_eqb kind 37 n37, ne_eqb kind 44 n44, ne_eqb kind 45 n45)
       (record { shows = record { is = fixed_is w st.rows two.table 3 (omega arith) (omega arith); type = bool_row_lem w st.rows two.table }; tells = a.tells })
@@ -222,13 +178,8 @@ identified s work at e e' st st' name en found ef rep r er =
     }
 
 -- A literal
-pub literal_error_lem : (s : List ℕ) (at f l col p : ℕ) → Read (half_at s (at + 6)) 16 f → Read (word_at s (at + 8)) 32 l → Read (word_at s (at + 12)) 32 col → p ≡ at
-    → record { kind = 23; file = f; line = l; column = col; first = 0; second = 0; third = 0; place = p } ≡ literal_error s at
-literal_error_lem s at f l col p rf rl rc ep =
-    λ i. record { kind = 23; file = rf.is i; line = rl.is i; column = rc.is i; first = 0; second = 0; third = 0; place = ep i }
-
 module _ (s : List ℕ) (at base : ℕ) (eb : Read (word_at s (at + 20)) 32 base) (len : ℕ) (el : Read (word_at s at) 32 len)
-    (parsed : Parsed) (ep : parsed_value parsed ≡ from_str_radix base (take (at + len - (at + 24)) (drop (at + 24) s))) (e : List ℕ) (st : State) where
+    (parsed : code.Option ℕ) (ep : parsed_value parsed ≡ from_str_radix base (take (at + len - (at + 24)) (drop (at + 24) s))) (e : List ℕ) (st : State) where
   read : parsed_value parsed ≡ from_str_radix (word_at s (at + 20)) (digits_at s at)
   read =
       ep ∙ ap (λ (n : ℕ). from_str_radix n (take (at + len - (at + 24)) (drop (at + 24) s))) eb.is
@@ -244,9 +195,9 @@ module _ (s : List ℕ) (at base : ℕ) (eb : Read (word_at s (at + 20)) 32 base
             (record { kind = refl; file = refl; line = refl; column = refl; first = (refl, refl); second = (refl, refl); third = (refl, refl); place = refl });
       }
 
-  pub literal_read : (v : ℕ) → parsed ≡ Value v → Integer s at e st e (record { ty = 4; state = st })
-  literal_read v q = judged true (sym (ap (λ (p : Parsed). is_some (parsed_value p)) q)) e st (reported_none true (literal_error s at) e st refl)
+  pub literal_read : (v : ℕ) → parsed ≡ code.Some v → Integer s at e st e (record { ty = 4; state = st })
+  literal_read v q = judged true (sym (ap (λ (p : code.Option ℕ). is_some (parsed_value p)) q)) e st (reported_none true (literal_error s at) e st refl)
 
-  pub literal_invalid : parsed ≡ Invalid → (x : Error) → x ≡ literal_error s at → (e' : List ℕ) (st' : State) → Reported e st x e' st' → Integer s at e st e' (record { ty = 4; state = st' })
-  literal_invalid q x ex e' st' rep =
-      judged false (sym (ap (λ (p : Parsed). is_some (parsed_value p)) q)) e' st' (reported_one false (literal_error s at) e st refl x ex e' st' rep)
+  pub literal_none : parsed ≡ code.None → (x : Error) → x ≡ literal_error s at → (e' : List ℕ) (st' : State) → Reported e st x e' st' → Integer s at e st e' (record { ty = 4; state = st' })
+  literal_none q x ex e' st' rep =
+      judged false (sym (ap (λ (p : code.Option ℕ). is_some (parsed_value p)) q)) e' st' (reported_one false (literal_error s at) e st refl x ex e' st' rep)

@@ -1,6 +1,6 @@
 -- Row numbers of which 0 says that there is none. Assumes nothing.
 use Prim.Native.Nat.{ℕ, ◌+◌, ◌*◌, ◌≤◌}
-use mathlib.Core.Path.{◌≡◌, refl, sym, ap, ◌∙◌}
+use mathlib.Core.Path.{◌≡◌, refl, sym, ap}
 use mathlib.Core.Bool.{Bool, true, false, not}
 use mathlib.Core.List.{List}
 use mathlib.Core.Logic.{⊎_elim}
@@ -8,7 +8,7 @@ use mathlib.Core.Option.{Option, none, some}
 use native.Mathlib.Omega.{arith}
 use lib.Dec.{eqb}
 use lib.ListN.{length, get_or}
-use borrow.Author.Tests.{eqb-true, eqb-false, eq-eqb, ne_eqb}
+use borrow.Author.Tests.{eqb-true, eqb-false}
 use Rattle.types.specs.Ty.{Ty, unknown}
 use Rattle.types.specs.Table.{Table, IsType}
 use Rattle.types.specs.Post.{FoundType}
@@ -85,24 +85,3 @@ module _ {work o e w ix : List ℕ} {st : State} (name : ℕ) where
     where
       held : (which : ℕ) (found : Option Ty) → Holds w st.rows (get_or work (word_place name which) 0) found → FoundType w st.rows found (get_or work (word_place name which) 0)
       held which found h = held_found w st.rows found (get_or work (word_place name which) 0) h
-
--- The exits of `or_unknown` and `resolve_identifier`
-module _ (row : ℕ) where
-  pub or_none : row ≡ 0 → 1 ≡ or_unknown_row row
-  or_none q = rw (eq-eqb row 0 q) refl
-
-  pub or_own : (row ≡ 0 → ⊥) → row ≡ or_unknown_row row
-  or_own q = rw (ne_eqb row 0 q) refl
-
-module _ (work : List ℕ) (name local : ℕ) (el : local ≡ get_or work (word_place name 2) 0) where
-  pub resolved_local : (local ≡ 0 → ⊥) → local ≡ resolved_word work name
-  resolved_local n = el ∙ rw (ne_eqb (get_or work (word_place name 2) 0) 0 (λ z. n (el ∙ z))) refl
-
-  module _ (z : local ≡ 0) (argument : ℕ) (ea : argument ≡ get_or work (word_place name 3) 0) where
-    pub resolved_argument : (argument ≡ 0 → ⊥) → argument ≡ resolved_word work name
-    resolved_argument n =
-        ea ∙ rw (eq-eqb (get_or work (word_place name 2) 0) 0 (sym el ∙ z), ne_eqb (get_or work (word_place name 3) 0) 0 (λ y. n (ea ∙ y))) refl
-
-    pub resolved_global : argument ≡ 0 → (global : ℕ) → global ≡ get_or work (word_place name 0) 0 → global ≡ resolved_word work name
-    resolved_global y global eg =
-        eg ∙ rw (eq-eqb (get_or work (word_place name 2) 0) 0 (sym el ∙ z), eq-eqb (get_or work (word_place name 3) 0) 0 (sym ea ∙ y)) refl

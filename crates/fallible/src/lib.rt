@@ -4,14 +4,14 @@
 pub mod kinds;
 
 ghost use Rattle.std.specs.Prelude.{◌≡◌};
-ghost use Rattle.fallible.specs.Errors.{error_list, pushed};
+ghost use Rattle.fallible.specs.Errors.{error_list, error_words, pushed};
 
 // The words of an error in the list.
 pub const ERROR_WIDTH: usize = 8;
 
 // An error: its kind, where it stands, and what its message names; operands that a kind does not use are 0. Of a bad
 // literal the place is that of its record in the file, else 0.
-#[derive(Clone, Copy)]
+#[derive(Clone, Copy, PartialEq, Eq)]
 pub struct Error {
     pub kind: u32,
     pub file: u32,
@@ -21,6 +21,24 @@ pub struct Error {
     pub second: u32,
     pub third: u32,
     pub place: u32,
+}
+
+impl Error {
+    // Its words, as they stand in the list.
+    fn words(self) -> [u32; ERROR_WIDTH]
+        ensures { result ≡ error_words self }
+    {
+        [
+            self.kind,
+            self.file,
+            self.line,
+            self.column,
+            self.first,
+            self.second,
+            self.third,
+            self.place,
+        ]
+    }
 }
 
 // Adds an error to the `count` there are, and returns the new count. An error that finds no room is only counted, and
@@ -33,13 +51,6 @@ pub fn push_error(errors: &mut [u32], count: usize, error: Error) -> usize
         return room + 1;
     }
     let at = ERROR_WIDTH * count;
-    errors[at] = error.kind;
-    errors[at + 1] = error.file;
-    errors[at + 2] = error.line;
-    errors[at + 3] = error.column;
-    errors[at + 4] = error.first;
-    errors[at + 5] = error.second;
-    errors[at + 6] = error.third;
-    errors[at + 7] = error.place;
+    errors[at..at + ERROR_WIDTH].copy_from_slice(&error.words());
     count + 1
 }

@@ -4,7 +4,8 @@
 ghost use Rattle.node.specs.Fine.{FineList};
 ghost use Rattle.shape.specs.declared.Holds.TheVariants.{InitialValue};
 ghost use Rattle.relations.specs.TypeRows.{OneType};
-ghost use Rattle.walk.specs.Moments.{given, before, after};
+ghost use Rattle.walk.specs.Moments.{moment};
+ghost use Rattle.walk.specs.Loans.{SameLoans};
 ghost use Rattle.convert.specs.Post.{Ready};
 ghost use Rattle.initial_value.specs.Post.{ValueChecked};
 
@@ -15,7 +16,7 @@ use names::BuiltIns;
 use node::Node;
 use record_bytes::{KIND, half};
 use shape::kinds::ARRAY_COMPOUND;
-use walk::State;
+use walk::Walk;
 
 // A variable's value, if there is one: where it starts and ends, the levels that are left for it, the type row of the
 // variable, and whether a plain value is compared with that type; a compound is in any case.
@@ -34,33 +35,27 @@ pub fn type_check_initial(
     names: BuiltIns,
     work: &[u32],
     value: Value,
-    output: &mut [u8],
-    errors: &mut [u32],
-    rows: &mut [u32],
-    index: &mut [u16; row_index::LENGTH],
-    state: State,
-) -> State
+    walk: &mut Walk<'_>,
+)
     requires fine_list { FineList s.now value.depth value.from value.end InitialValue }
-    requires ready { Ready s.now (given work.now output errors rows index state) }
-    requires one_type { OneType rows.old state.rows value.ty }
-    ensures { ValueChecked s.now names value
-        (before work.now output errors rows index state)
-        (after work.now output errors rows index result) }
+    requires ready { Ready s.now (moment work.now walk.old) }
+    requires one_type { OneType walk.old.rows.now walk.old.state.rows value.ty }
+    ensures effect { ValueChecked s.now names value (moment work.now walk.old) (moment work.now walk.new) }
+    ensures loans { SameLoans walk.old walk.new }
 {
-    let at = value.from;
-    let depth = value.depth;
-    let ty = value.ty;
-    if value.end <= at {
-        return state;
+    if value.end <= value.from {
+        return;
     }
-    let node = Node { at, depth };
-    if half(s, at + KIND) < ARRAY_COMPOUND {
-        let typed = type_check_expression(s, names, work, node, output, errors, rows, index, state);
-        let next = typed.state;
-        if value.compare {
-            return check_types_are_assignable(s, at, ty, typed.ty, errors, rows, next);
-        }
-        return next;
+    let node = Node {
+        at: value.from,
+        depth: value.depth,
+    };
+    if ARRAY_COMPOUND <= half(s, node.at + KIND) {
+        type_check_compound_assignment(s, names, work, node, value.ty, walk);
+        return;
     }
-    type_check_compound_assignment(s, names, work, node, ty, output, errors, rows, index, state)
+    let ty = type_check_expression(s, names, work, node, walk);
+    if value.compare {
+        check_types_are_assignable(s, node.at, value.ty, ty, walk);
+    }
 }

@@ -1,13 +1,12 @@
 -- The body of a function: a statement, all of whose paths must diverge unless void itself is returned. Assumes nothing.
 use Prim.Native.Nat.{ℕ, ◌+◌, ◌-◌, ◌≤◌, ◌<◌}
 use mathlib.Core.Path.{◌≡◌, refl, sym, ap, ◌∙◌, subst}
-use mathlib.Core.Bool.{Bool, true, false, ◌||◌}
+use mathlib.Core.Bool.{Bool, false, ◌||◌}
 use mathlib.Core.List.{List, []}
 use mathlib.Core.Option.{Option, none, some}
 use native.Mathlib.Omega.{arith}
 use lib.Dec.{eqb}
 use lib.ListN.{length}
-use borrow.Author.Tests.{eq-eqb, ne_eqb}
 use Rattle.types.specs.Ty.{Ty, void, same}
 use Rattle.shape.specs.Shape.{a_statement}
 use Rattle.record_bytes.specs.Bytes.{Read, word_at}
@@ -36,14 +35,6 @@ use Rattle.expression.proofs.Visits.{visit_steps}
 use Rattle.compound.proofs.Compounds.{told_then}
 use Rattle.statement.specs.Post.{Inside, StatementCheckedAt}
 use Rattle.items.specs.Post.{BodyLeft, BodyChecked}
-
--- Whether void itself is returned, and whether all paths diverge
-module _ (returned : ℕ) (diverges : Bool) where
-  pub void_returned : returned ≡ 2 → true ≡ (eqb returned 2 || diverges)
-  void_returned e = rw (eq-eqb returned 2 e)
-
-  pub other_returned : (returned ≡ 2 → ⊥) → {r : Bool} → r ≡ diverges → r ≡ (eqb returned 2 || diverges)
-  other_returned ne e = rw (ne_eqb returned 2 ne) e
 
 -- Row 2 is the only row of void
 is_void : {C : Lent} {r : ℕ} {t : Ty} → Good C → Typing C r t → C.state.full ≡ false → eqb r 2 ≡ same t void

@@ -14,7 +14,8 @@ ghost use Rattle.relations.specs.TypeRows.{OneType};
 ghost use Rattle.meaning.specs.Divergence.{do_all_paths_diverge};
 ghost use Rattle.meaning.specs.Promise.{work_width};
 ghost use Rattle.convert.specs.Post.{Ready};
-ghost use Rattle.walk.specs.Moments.{given, before, after};
+ghost use Rattle.walk.specs.Moments.{moment};
+ghost use Rattle.walk.specs.Loans.{SameLoans};
 ghost use Rattle.items.specs.Post.{BodyLeft, NodesLeft, CheckedParameters, CheckedBody, Cleared, ClearedFunction};
 ghost use Rattle.items.specs.Post.{ItemNodeChecked, ItemNodesChecked};
 
@@ -29,14 +30,7 @@ use node::{Node, Nodes};
 use record_bytes::{FIELD_END, FIELDS_END, HEAD_END, KIND, half, length_at, word};
 use shape::kinds::{FUNCTION_DEFINITION, GLOBAL_DECLARATION, PARAMETER, TYPE_ALIAS};
 use statement::{Function, type_check_statement};
-use walk::State;
-
-// Where the parameters of a function end, and the state then.
-#[derive(Clone, Copy)]
-struct ParametersEnd {
-    at: usize,
-    state: State,
-}
+use walk::Walk;
 
 // What is left of the function at `at` after its parameters: its body, or nothing.
 #[derive(Clone, Copy)]
@@ -51,37 +45,26 @@ fn type_check_parameters(
     names: BuiltIns,
     work: &mut [u32],
     list: Nodes,
-    output: &mut [u8],
-    errors: &mut [u32],
-    rows: &mut [u32],
-    index: &mut [u16; row_index::LENGTH],
-    state: State,
-) -> ParametersEnd
+    walk: &mut Walk<'_>,
+) -> usize
     requires fine_nodes { FineNodes s.now list Parameters }
-    requires ready { Ready s.now (given work.old output errors rows index state) }
-    ensures { CheckedParameters s.now names list result.at
-        (before work.old output errors rows index state)
-        (after work.new output errors rows index result.state) }
+    requires ready { Ready s.now (moment work.old walk.old) }
+    ensures effect { CheckedParameters s.now names list result (moment work.old walk.old) (moment work.new walk.new) }
+    ensures loans { SameLoans walk.old walk.new }
 {
-    let end = list.end;
-    let levels = list.depth;
+    let pass = Pass { names, fill: true };
     let mut at = list.from;
-    let mut next = state;
-    while at < end {
-        if half(s, at + KIND) != PARAMETER {
-            return ParametersEnd { at, state: next };
-        }
-        let start = at + FIELD_END;
-        let depth = levels - 1;
-        let node = Node { at: start, depth };
-        let pass = Pass { names, fill: true };
-        let converted = convert_node_type(s, pass, work, node, output, errors, rows, index, next);
+    while at < list.end && half(s, at + KIND) == PARAMETER {
+        let node = Node {
+            at: at + FIELD_END,
+            depth: list.depth - 1,
+        };
+        let converted = convert_node_type(s, pass, work, node, walk);
         let name = word(s, at + HEAD_END);
-        walk::set_word(work, name, walk::ARGUMENT, converted.ty);
-        next = converted.state;
+        walk::set_word(work, name, walk::ARGUMENT, converted);
         at += length_at(s, at);
     }
-    ParametersEnd { at, state: next }
+    at
 }
 
 // Whether a body needs no return: void itself is returned, which is row 2, or all paths diverge.
@@ -89,57 +72,40 @@ fn needs_no_return(s: &[u8], node: Node, returned: u32) -> bool
     requires { FineNode s.now node a_statement }
     ensures { result ≡ (eqb returned 2 || do_all_paths_diverge (statement_at s.now node.depth node.at)) }
 {
-    if returned == types::VOID {
-        return true;
-    }
-    do_all_paths_diverge(s, node)
+    returned == types::VOID || do_all_paths_diverge(s, node)
 }
 
 // The body of a function, if it has one.
-fn type_check_body(
-    s: &[u8],
-    function: Function,
-    work: &mut [u32],
-    body: Body,
-    output: &mut [u8],
-    errors: &mut [u32],
-    rows: &mut [u32],
-    index: &mut [u16; row_index::LENGTH],
-    state: State,
-) -> State
+fn type_check_body(s: &[u8], function: Function, work: &mut [u32], body: Body, walk: &mut Walk<'_>)
     requires at_in_bounds { (field_end body.at ≤ length s.now) × NodesLeft s.now body.left }
-    requires ready { Ready s.now (given work.old output errors rows index state) }
-    requires one_type { OneType rows.old state.rows function.returned }
-    ensures { CheckedBody s.now function body
-        (before work.old output errors rows index state)
-        (after work.new output errors rows index result) }
+    requires ready { Ready s.now (moment work.old walk.old) }
+    requires one_type { OneType walk.old.rows.now walk.old.state.rows function.returned }
+    ensures effect { CheckedBody s.now function body (moment work.old walk.old) (moment work.new walk.new) }
+    ensures loans { SameLoans walk.old walk.new }
 {
     let left = body.left;
     if left.end <= left.from {
-        return state;
+        return;
     }
-    let at = left.from;
-    let depth = left.depth;
-    let node = Node { at, depth };
-    let next = type_check_statement(s, function, work, node, output, errors, rows, index, state);
+    let node = Node {
+        at: left.from,
+        depth: left.depth,
+    };
+    type_check_statement(s, function, work, node, walk);
     let name = word(s, body.at + HEAD_END);
     let holds = needs_no_return(s, node, function.returned);
-    let kind = PATHS_WITHOUT_RETURN;
-    report_unless(holds, s, body.at, kind, name, 0, 0, errors, next)
+    report_unless(holds, s, body.at, PATHS_WITHOUT_RETURN, name, 0, 0, walk)
 }
 
 // Clears the words of locals and arguments of all names, which stand side by side.
 fn clear_all_locals(work: &mut [u32])
     ensures { Cleared work.old work.new }
 {
-    let mut i = walk::LOCAL;
-    while i + 1 < work.len() {
+    for i in (walk::LOCAL..work.len()).step_by(walk::WORK_WIDTH) {
         work[i] = 0;
-        work[i + 1] = 0;
-        i += walk::WORK_WIDTH;
-    }
-    if i < work.len() {
-        work[i] = 0;
+        if i + 1 < work.len() {
+            work[i + 1] = 0;
+        }
     }
 }
 
@@ -156,143 +122,89 @@ fn clear_function(s: &[u8], parameters: Nodes, body: usize, work: &mut [u32])
         return;
     }
     clear_parameters(s, parameters, work);
-    if parameters.end <= body {
-        return;
+    if body < parameters.end {
+        let node = Node {
+            at: body,
+            depth: parameters.depth,
+        };
+        clear_statement(s, node, work)
     }
-    let depth = parameters.depth;
-    let node = Node { at: body, depth };
-    clear_statement(s, node, work)
 }
 
 // A function: its parameters, then the type that it returns, then its body.
-fn type_check_function(
-    s: &[u8],
-    names: BuiltIns,
-    work: &mut [u32],
-    node: Node,
-    output: &mut [u8],
-    errors: &mut [u32],
-    rows: &mut [u32],
-    index: &mut [u16; row_index::LENGTH],
-    state: State,
-) -> State
+fn type_check_function(s: &[u8], names: BuiltIns, work: &mut [u32], node: Node, walk: &mut Walk<'_>)
     requires fine_node { FineNode s.now node an_item × (kind_at s.now node.at ≡ kinds.function_definition) }
-    requires ready { Ready s.now (given work.old output errors rows index state) }
-    ensures { ItemNodeChecked s.now names node
-        (before work.old output errors rows index state)
-        (after work.new output errors rows index result) }
+    requires ready { Ready s.now (moment work.old walk.old) }
+    ensures effect { ItemNodeChecked s.now names node (moment work.old walk.old) (moment work.new walk.new) }
+    ensures loans { SameLoans walk.old walk.new }
 {
     let end = node.at + length_at(s, node.at);
     let at = node.at + FIELD_END;
     let depth = node.depth - 1;
     let first = Node { at, depth };
     let from = at + length_at(s, at);
-    let list = Nodes { from, end, depth };
-    let entered = type_check_parameters(s, names, work, list, output, errors, rows, index, state);
-    let known = entered.state;
+    let parameters = Nodes { from, end, depth };
+    let from = type_check_parameters(s, names, work, parameters, walk);
     let pass = Pass { names, fill: true };
-    let typed = convert_node_type(s, pass, work, first, output, errors, rows, index, known);
-    let returned = typed.ty;
+    let returned = convert_node_type(s, pass, work, first, walk);
     let function = Function { names, returned };
-    let from = entered.at;
     let left = Nodes { from, end, depth };
     let body = Body { at: node.at, left };
-    let ready = typed.state;
-    let next = type_check_body(s, function, work, body, output, errors, rows, index, ready);
-    clear_function(s, list, from, work);
-    next
+    type_check_body(s, function, work, body, walk);
+    clear_function(s, parameters, from, work);
 }
 
 // An alias: the type that it is declared with.
-fn type_check_alias(
-    s: &[u8],
-    names: BuiltIns,
-    work: &[u32],
-    node: Node,
-    output: &mut [u8],
-    errors: &mut [u32],
-    rows: &mut [u32],
-    index: &mut [u16; row_index::LENGTH],
-    state: State,
-) -> State
+fn type_check_alias(s: &[u8], names: BuiltIns, work: &[u32], node: Node, walk: &mut Walk<'_>)
     requires fine_node { FineNode s.now node an_item × (kind_at s.now node.at ≡ kinds.type_alias) }
-    requires ready { Ready s.now (given work.now output errors rows index state) }
-    ensures { ItemNodeChecked s.now names node
-        (before work.now output errors rows index state)
-        (after work.now output errors rows index result) }
+    requires ready { Ready s.now (moment work.now walk.old) }
+    ensures effect { ItemNodeChecked s.now names node (moment work.now walk.old) (moment work.now walk.new) }
+    ensures loans { SameLoans walk.old walk.new }
 {
-    let at = node.at + FIELDS_END;
-    let depth = node.depth - 1;
-    let first = Node { at, depth };
+    let first = Node {
+        at: node.at + FIELDS_END,
+        depth: node.depth - 1,
+    };
     let pass = Pass { names, fill: true };
-    let aliased = convert_node_type(s, pass, work, first, output, errors, rows, index, state);
-    aliased.state
+    convert_node_type(s, pass, work, first, walk);
 }
 
 // A variable: its type, then its value, of which only a compound is compared with the type.
-fn type_check_variable(
-    s: &[u8],
-    names: BuiltIns,
-    work: &[u32],
-    node: Node,
-    output: &mut [u8],
-    errors: &mut [u32],
-    rows: &mut [u32],
-    index: &mut [u16; row_index::LENGTH],
-    state: State,
-) -> State
+fn type_check_variable(s: &[u8], names: BuiltIns, work: &[u32], node: Node, walk: &mut Walk<'_>)
     requires fine_node { FineNode s.now node an_item × (kind_at s.now node.at ≡ kinds.global_declaration) }
-    requires ready { Ready s.now (given work.now output errors rows index state) }
-    ensures { ItemNodeChecked s.now names node
-        (before work.now output errors rows index state)
-        (after work.now output errors rows index result) }
+    requires ready { Ready s.now (moment work.now walk.old) }
+    ensures effect { ItemNodeChecked s.now names node (moment work.now walk.old) (moment work.now walk.new) }
+    ensures loans { SameLoans walk.old walk.new }
 {
     let end = node.at + length_at(s, node.at);
     let at = node.at + FIELD_END;
     let depth = node.depth - 1;
     let first = Node { at, depth };
     let pass = Pass { names, fill: true };
-    let declared = convert_node_type(s, pass, work, first, output, errors, rows, index, state);
+    let ty = convert_node_type(s, pass, work, first, walk);
     let from = at + length_at(s, at);
     let value = Value {
         from,
         end,
         depth,
-        ty: declared.ty,
+        ty,
         compare: false,
     };
-    let next = declared.state;
-    type_check_initial(s, names, work, value, output, errors, rows, index, next)
+    type_check_initial(s, names, work, value, walk)
 }
 
 // An item.
-fn type_check_item(
-    s: &[u8],
-    names: BuiltIns,
-    work: &mut [u32],
-    node: Node,
-    output: &mut [u8],
-    errors: &mut [u32],
-    rows: &mut [u32],
-    index: &mut [u16; row_index::LENGTH],
-    state: State,
-) -> State
+fn type_check_item(s: &[u8], names: BuiltIns, work: &mut [u32], node: Node, walk: &mut Walk<'_>)
     requires fine_node { FineNode s.now node an_item }
-    requires ready { Ready s.now (given work.old output errors rows index state) }
-    ensures { ItemNodeChecked s.now names node
-        (before work.old output errors rows index state)
-        (after work.new output errors rows index result) }
+    requires ready { Ready s.now (moment work.old walk.old) }
+    ensures effect { ItemNodeChecked s.now names node (moment work.old walk.old) (moment work.new walk.new) }
+    ensures loans { SameLoans walk.old walk.new }
 {
-    let kind = half(s, node.at + KIND);
-    match kind {
-        FUNCTION_DEFINITION => {
-            type_check_function(s, names, work, node, output, errors, rows, index, state)
-        }
-        TYPE_ALIAS => type_check_alias(s, names, work, node, output, errors, rows, index, state),
-        GLOBAL_DECLARATION => {
-            type_check_variable(s, names, work, node, output, errors, rows, index, state)
-        }
-        _ => state,
+    match half(s, node.at + KIND) {
+        FUNCTION_DEFINITION => type_check_function(s, names, work, node, walk),
+        TYPE_ALIAS => type_check_alias(s, names, work, node, walk),
+        GLOBAL_DECLARATION => type_check_variable(s, names, work, node, walk),
+        _ => {}
     }
 }
 
@@ -302,26 +214,18 @@ pub fn type_check_items(
     names: BuiltIns,
     work: &mut [u32],
     list: Nodes,
-    output: &mut [u8],
-    errors: &mut [u32],
-    rows: &mut [u32],
-    index: &mut [u16; row_index::LENGTH],
-    state: State,
-) -> State
+    walk: &mut Walk<'_>,
+)
     requires fine_nodes { FineNodes s.now list Items }
-    requires ready { Ready s.now (given work.old output errors rows index state) }
-    ensures { ItemNodesChecked s.now names list
-        (before work.old output errors rows index state)
-        (after work.new output errors rows index result) }
+    requires ready { Ready s.now (moment work.old walk.old) }
+    ensures effect { ItemNodesChecked s.now names list (moment work.old walk.old) (moment work.new walk.new) }
+    ensures loans { SameLoans walk.old walk.new }
 {
-    let end = list.end;
     let depth = list.depth;
     let mut at = list.from;
-    let mut next = state;
-    while at < end {
+    while at < list.end {
         let node = Node { at, depth };
-        next = type_check_item(s, names, work, node, output, errors, rows, index, next);
+        type_check_item(s, names, work, node, walk);
         at += length_at(s, at);
     }
-    next
 }

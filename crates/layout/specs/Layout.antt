@@ -1,5 +1,5 @@
 -- Document 01, "Module file" and refusals 1 to 3: the walk over a module's layout in byte order, to the first fault.
-use Rattle.std.specs.Prelude.{ℕ, zero, suc, ◌+◌, ◌-◌, ◌*◌, ◌≤◌, ◌<◌, ◌≡◌, Bool, true, false, not, ◌&&◌, List, length, leb, ltb, eqb}
+use Rattle.std.specs.Prelude.{ℕ, zero, suc, ◌+◌, ◌-◌, ◌*◌, ◌≤◌, ◌<◌, ◌≡◌, Bool, true, false, not, ◌&&◌, List, length, leb, ltb, eqb, Result, Ok, Err}
 use Rattle.std.proofs.Math.Option.{Option, none, some}
 use Rattle.shape.specs.Shape.{pick, shape_of, due_in, is_done, may_stand, state_after, allowed, unlisted}
 use Rattle.shape.specs.declared.Rule.{Rule}
@@ -9,10 +9,18 @@ use Rattle.shape.specs.declared.Shape.{Shape}
 use Rattle.shape.specs.declared.Due.{Due}
 use Rattle.record_bytes.specs.Bytes.{half_at, word_at, head_size, field_size, head_end, field_end}
 use Rattle.names.specs.Names.{name_count}
-use Rattle.layout.specs.declared.Layout.{Layout}
-use Rattle.layout.specs.declared.Layout.TheVariants.{Good, TooLong, Fault, TooDeep}
+use Rattle.refusal.specs.declared.Refusal.{Refusal}
+use Rattle.refusal.specs.declared.Refusal.TheVariants as causes
+use Rattle.layout.specs.declared.LayoutError.{LayoutError}
+use Rattle.layout.specs.declared.LayoutError.TheVariants.{TooLong, Fault, TooDeep}
 use Rattle.layout.specs.declared.Head.{Head}
-use Rattle.layout.specs.declared.Head.TheVariants.{Body, Wrong}
+
+-- The layout of a module, or of a part of it: it is good, or has an error
+abbrev pub Layout : Type 0
+Layout = Result (Unit {0}) LayoutError
+
+abbrev pub Good : Layout
+Good = Ok tt
 
 -- "At most 65,536 bytes; depth at most 64, the module being 1"
 abbrev pub max_bytes : ℕ
@@ -46,14 +54,18 @@ is_whole s at end = leb head_size (end - at) && (leb (word_at s at) (end - at) &
 unfoldable pub is_bad : (names : ℕ) → List ℕ → (nth fields : ℕ) → Rule → (at : ℕ) → Bool
 is_bad n s nth fields rule at = leb nth fields && not (allowed n rule (word_at s at))
 
+-- the head of the record at `at`, if it is good
+abbrev pub good_head : List ℕ → (at : ℕ) → Due → Head
+good_head s at due = record { start = start_at s at; stop = stop_at s at; holds = (shape_at s at).holds; next = state_after due (shape_at s at).class }
+
 -- the head of the record that is due at `at`
-unfoldable pub head_at : (names : ℕ) → List ℕ → (at end : ℕ) → Due → Head
+unfoldable pub head_at : (names : ℕ) → List ℕ → (at end : ℕ) → Due → Result Head LayoutError
 head_at n s at end due =
     pick (is_whole s at end && may_stand due (shape_at s at).class)
-    (pick (is_bad n s 1 (shape_at s at).fields (shape_at s at).first (head_end at)) (Wrong (head_end at))
-    (pick (is_bad n s 2 (shape_at s at).fields (shape_at s at).second (field_end at)) (Wrong (field_end at))
-    (Body (start_at s at) (stop_at s at) (shape_at s at).holds (state_after due (shape_at s at).class))))
-    (Wrong at)
+    (pick (is_bad n s 1 (shape_at s at).fields (shape_at s at).first (head_end at)) (Err (Fault (head_end at)))
+    (pick (is_bad n s 2 (shape_at s at).fields (shape_at s at).second (field_end at)) (Err (Fault (field_end at)))
+    (Ok (good_head s at due))))
+    (Err (Fault at))
 
 -- What follows is a function of nothing, so that it is computed only where it counts.
 abbrev pub answer_if : Bool → Layout → (Unit {0} → Layout) → Layout
@@ -61,30 +73,28 @@ answer_if true l f = l
 answer_if false l f = f tt
 
 abbrev pub and_then : Layout → (Unit {0} → Layout) → Layout
-and_then Good f = f tt
-and_then TooLong f = TooLong
-and_then (Fault p) f = Fault p
-and_then (TooDeep p) f = TooDeep p
+and_then (Ok u) f = f u
+and_then (Err e) f = Err e
 
-abbrev pub after_head : (ℕ → ℕ → Holds → Layout) → Head → Layout
-after_head f (Body start stop holds next) = f start stop holds
-after_head f (Wrong p) = Fault p
+abbrev pub after_head : (ℕ → ℕ → Holds → Layout) → Result Head LayoutError → Layout
+after_head f (Ok head) = f head.start head.stop head.holds
+after_head f (Err e) = Err e
 
 -- One step of a child list: it is complete; or bytes are left over; or a record is due, and the rest follows
 abbrev pub list_step : (ℕ → ℕ → Due → Layout) → (ℕ → Holds → Layout) → List ℕ → (at end : ℕ) → Due → Layout
 list_step one rest s at end due =
     answer_if (is_done due at end) Good (λ _.
-    answer_if (eqb due.class unlisted) (Fault at) (λ _.
+    answer_if (eqb due.class unlisted) (Err (Fault at)) (λ _.
     and_then (one at end due) (λ _. rest (stop_at s at) (state_after due (shape_at s at).class))))
 
 -- the child list from `at` to `end` in a state; the first number bounds how many records it has
 unfoldable pub list_at : (ℕ → ℕ → Due → Layout) → List ℕ → (fuel at end : ℕ) → Holds → Layout
-list_at one s zero at end state = Fault at
+list_at one s zero at end state = Err (Fault at)
 list_at one s (suc n) at end state = list_step one (λ a st. list_at one s n a end st) s at end (due_in state)
 
 -- the record that is due at `at`, with so many levels left
 unfoldable pub record_at : (names : ℕ) → List ℕ → (depth at end : ℕ) → Due → Layout
-record_at n s zero at end due = TooDeep at
+record_at n s zero at end due = Err (TooDeep at)
 record_at n s (suc d) at end due = after_head (λ start stop holds. list_at (record_at n s d) s (suc (length s)) start stop holds) (head_at n s at end due)
 
 -- the file of no bytes
@@ -95,15 +105,21 @@ is_empty_file s = eqb (length s) 0
 unfoldable pub layout_of : List ℕ → Layout
 layout_of s =
     answer_if (is_empty_file s) Good (λ _.
-    answer_if (ltb max_bytes (length s)) TooLong (λ _.
+    answer_if (ltb max_bytes (length s)) (Err TooLong) (λ _.
     list_at (record_at (name_count s) s max_depth) s (suc (length s)) 0 (length s) OneModule))
 
 -- the number and the place of each case
 unfoldable pub layout_refusal : Layout → Option (ℕ × ℕ)
-layout_refusal Good = none
-layout_refusal TooLong = some (1, 0)
-layout_refusal (Fault p) = some (2, p)
-layout_refusal (TooDeep p) = some (3, p)
+layout_refusal (Ok u) = none
+layout_refusal (Err TooLong) = some (1, 0)
+layout_refusal (Err (Fault p)) = some (2, p)
+layout_refusal (Err (TooDeep p)) = some (3, p)
+
+-- the cause of each case
+abbrev pub cause_of : LayoutError → Refusal
+cause_of TooLong = causes.TooLong
+cause_of (Fault p) = causes.BadLayout p
+cause_of (TooDeep p) = causes.TooDeep p
 
 -- tests 1 to 3: the number and the place of the refusal, if there is one
 abbrev pub layout_tests : List ℕ → Option (ℕ × ℕ)

@@ -5,51 +5,27 @@
 ghost use Rattle.std.specs.Prelude.{◌≡◌, ◌≢◌, ◌<◌, ◌≤◌, length, IfOk, OnErr};
 ghost use Rattle.layout_cases.specs.Commands.{NumberRead, NumberFailed, ReplaceFailed};
 
-use layout::Layout;
-use names::Repeated;
+use module_tests::module_refusal;
 use program_support::input::read_full;
-use program_support::print::{BUFFER, flush, put_refused, put_text};
+use program_support::print::Lines;
+use refusal::Refusal;
 use std::io;
 use std::io::Read;
 
 // Room for a module and more.
 const ROOM: usize = 70000;
 
-// What tests 1 to 4 say of a module, if they are asked.
-#[derive(Clone, Copy)]
-enum Verdict {
-    NotAsked,
-    Good,
-    Refused(u32, usize),
-}
+// The most commands.
+const COMMANDS: u32 = 1000000;
 
-fn judge_names(s: &[u8]) -> Verdict {
-    let repeated = name_index::repeated_name(s);
-    match repeated {
-        Repeated::At(place) => Verdict::Refused(4, place),
-        Repeated::Nowhere => Verdict::Good,
-    }
-}
+// What tests 1 to 4 say of a module, if they are asked.
+type Verdict = Option<Result<(), Refusal>>;
 
 // Judges the first n bytes.
 fn judge(base: &[u8], n: usize) -> Verdict
     requires { n ≤ length base.now }
 {
-    let s = &base[..n];
-    let layout = layout::check_layout(s);
-    match layout {
-        Layout::Good => judge_names(s),
-        Layout::TooLong => Verdict::Refused(1, 0),
-        Layout::Fault(place) => Verdict::Refused(2, place),
-        Layout::TooDeep(place) => Verdict::Refused(3, place),
-    }
-}
-
-fn wide(b: u8) -> usize
-    ensures small { result < 256 }
-    ensures same { result ≡ b }
-{
-    b as usize
+    Some(module_refusal(&base[..n]))
 }
 
 // A number of four bytes, no larger than the room.
@@ -60,11 +36,8 @@ fn read_number<R: Read>(input: &mut R) -> io::Result<usize>
 {
     let mut b = [0u8; 4];
     read_full(input, &mut b)?;
-    let n = wide(b[0]) + 256 * wide(b[1]) + 65536 * wide(b[2]);
-    if ROOM < n {
-        return Ok(ROOM);
-    }
-    Ok(n)
+    let n = u32::from_le_bytes([b[0], b[1], b[2], 0]) as usize;
+    Ok(n.min(ROOM))
 }
 
 fn read_byte(input: &mut impl Read) -> io::Result<u8> {
@@ -81,8 +54,7 @@ struct Step {
 }
 
 // A new base.
-fn replace<R: Read>(input: &mut R, base: &mut [u8]) -> io::Result<Step>
-    requires { length base.old ≡ 70000 }
+fn replace<R: Read>(input: &mut R, base: &mut [u8; ROOM]) -> io::Result<Step>
     ensures ok { IfOk result (λ r. r.n ≤ 70000) }
     ensures err { OnErr result (ReplaceFailed (R.remaining input.old) (R.remaining input.new) base.old base.new) }
 {
@@ -93,8 +65,8 @@ fn replace<R: Read>(input: &mut R, base: &mut [u8]) -> io::Result<Step>
 }
 
 // The base cut.
-fn cut(input: &mut impl Read, base: &[u8], n: usize) -> io::Result<Step>
-    requires { (length base.now ≡ 70000) × (n ≤ 70000) }
+fn cut(input: &mut impl Read, base: &[u8; ROOM], n: usize) -> io::Result<Step>
+    requires { n ≤ 70000 }
     ensures { IfOk result (λ r. r.n ≤ 70000) }
 {
     let end = read_number(input)?;
@@ -103,16 +75,15 @@ fn cut(input: &mut impl Read, base: &[u8], n: usize) -> io::Result<Step>
 }
 
 // The base with a byte changed.
-fn change(input: &mut impl Read, base: &mut [u8], n: usize) -> io::Result<Step>
-    requires { (length base.old ≡ 70000) × (n ≤ 70000) }
+fn change(input: &mut impl Read, base: &mut [u8; ROOM], n: usize) -> io::Result<Step>
+    requires { n ≤ 70000 }
     ensures ok { IfOk result (λ r. r.n ≤ 70000) }
     ensures err { OnErr result (base.new ≡ base.old) }
 {
     let place = read_number(input)?;
     let value = read_byte(input)?;
     if ROOM <= place {
-        let verdict = Verdict::NotAsked;
-        return Ok(Step { n, verdict });
+        return Ok(Step { n, verdict: None });
     }
     let old = base[place];
     base[place] = value;
@@ -121,34 +92,25 @@ fn change(input: &mut impl Read, base: &mut [u8], n: usize) -> io::Result<Step>
     Ok(Step { n, verdict })
 }
 
-fn clear(bytes: &mut [u8]) {
-    let mut i = 0;
-    while i < bytes.len() {
-        bytes[i] = 0;
-        i += 1;
-    }
-}
-
 // The base made longer, as far as there is room.
-fn lengthen(input: &mut impl Read, base: &mut [u8], n: usize) -> io::Result<Step>
-    requires { (length base.old ≡ 70000) × (n ≤ 70000) }
+fn lengthen(input: &mut impl Read, base: &mut [u8; ROOM], n: usize) -> io::Result<Step>
+    requires { n ≤ 70000 }
     ensures ok { IfOk result (λ r. r.n ≤ 70000) }
     ensures err { OnErr result (base.new ≡ base.old) }
 {
     let more = read_number(input)?;
     if ROOM - n < more {
-        let verdict = Verdict::NotAsked;
-        return Ok(Step { n, verdict });
+        return Ok(Step { n, verdict: None });
     }
     let end = n + more;
-    clear(&mut base[n..end]);
+    base[n..end].fill(0);
     let verdict = judge(base, end);
     Ok(Step { n: end, verdict })
 }
 
 // One command. If a read fails, only M (77), a new base, may have written into the base.
-fn run<R: Read>(input: &mut R, command: u8, base: &mut [u8], n: usize) -> io::Result<Step>
-    requires { (length base.old ≡ 70000) × (n ≤ 70000) }
+fn run<R: Read>(input: &mut R, command: u8, base: &mut [u8; ROOM], n: usize) -> io::Result<Step>
+    requires { n ≤ 70000 }
     ensures ok { IfOk result (λ r. r.n ≤ 70000) }
     ensures replace_err { OnErr result (command ≡ 77 → ReplaceFailed (R.remaining input.old) (R.remaining input.new) base.old base.new) }
     ensures other_err { OnErr result (command ≢ 77 → base.new ≡ base.old) }
@@ -161,36 +123,27 @@ fn run<R: Read>(input: &mut R, command: u8, base: &mut [u8], n: usize) -> io::Re
     }
 }
 
-fn put_verdict(
-    out: &impl Print,
-    buffer: &mut [u8],
-    used: usize,
-    verdict: Verdict,
-) -> io::Result<usize> {
+fn put_verdict(lines: &mut Lines<impl Print>, verdict: Verdict) -> io::Result<()> {
     match verdict {
-        Verdict::NotAsked => Ok(used),
-        Verdict::Good => put_text(out, buffer, used, b"good\n"),
-        Verdict::Refused(number, place) => put_refused(out, buffer, used, number, place),
+        None => Ok(()),
+        Some(Ok(())) => lines.put_text(b"good\n"),
+        Some(Err(refusal)) => lines.put_refused(refusal),
     }
 }
 
 fn main(rt: HostRuntime) -> io::Result<()> {
     let mut input = rt.stdin();
     let mut base = [0u8; ROOM];
-    let mut buffer = [0u8; BUFFER];
+    let mut lines = Lines::new(&rt);
     let mut n: usize = 0;
-    let mut held: usize = 0;
-    let mut left: u32 = 1000000;
-    while 0 < left {
+    for _ in 0..COMMANDS {
         let mut command = [0u8; 1];
         if read_full(&mut input, &mut command)? < 1 {
             break;
         }
         let step = run(&mut input, command[0], &mut base, n)?;
-        let verdict = step.verdict;
-        held = put_verdict(&rt, &mut buffer, held, verdict)?;
+        put_verdict(&mut lines, step.verdict)?;
         n = step.n;
-        left -= 1;
     }
-    flush(&rt, &buffer, held)
+    lines.flush()
 }

@@ -8,15 +8,11 @@ use borrow.Author.Tests.{eq-eqb, ne_eqb}
 use lib.Dec.{eqb}
 use lib.ListN.{length, set, length-set}
 use Rattle.shape.specs.Kinds as kinds
-use Rattle.shape.specs.Shape.{shape_of, due_in, Shaped}
-use Rattle.shape.specs.declared.Shape.{Shape}
-use Rattle.shape.specs.declared.Due.{Due}
 use Rattle.record_bytes.specs.Bytes.{word_at, half_at, head_size, field_size, Read}
-use Rattle.names.specs.Names.{stands, Following}
+use Rattle.names.specs.Names.{stands, Next}
 use Rattle.layout.specs.Layout.{kind_at, start_at, stop_at}
 use Rattle.trees.specs.Record.{Records, no_records, records_at, records_with, record_with, go_on, field_count, holds_free_bytes}
 use Rattle.trees.proofs.Decode.{enough, records_end}
-use Rattle.names.proofs.NameLaws.{stops_at}
 use Rattle.listing.specs.Literals.{literals_in, mark_all, marked_here, bytes_before, children_start}
 
 -- The place of a record, if it is a literal
@@ -85,22 +81,21 @@ marking_none s depth from end marks p = let e : 0 ≡ depth = omega arith in ap 
 pub marking_start : (s : List ℕ) (depth from end : ℕ) (marks : List ℕ) → Marking s depth from end marks marks from
 marking_start s depth from end marks = record { long = refl; whole = refl }
 
-module _ (s : List ℕ) (depth from end : ℕ) (before marks : List ℕ) (at next : ℕ) (low : 1 ≤ depth) (inside : end ≤ length s)
-    (marking : Marking s depth from end before marks at) (f : Following s at end next) where
-  pub marking_done : next ≡ at → marks ≡ mark_all (literals_in (records_at s depth from end)) before
+module _ (s : List ℕ) (depth from end : ℕ) (before marks : List ℕ) (at : ℕ) (low : 1 ≤ depth) (inside : end ≤ length s)
+    (marking : Marking s depth from end before marks at) where
+  pub marking_done : stands s at end ≡ false → marks ≡ mark_all (literals_in (records_at s depth from end)) before
   unfolding literals_in mark_all
-  marking_done e = sym (ap (λ (r : Records). mark_all (literals_in r) marks) (records_none s depth at end (f.missing e))) ∙ marking.whole
+  marking_done e = sym (ap (λ (r : Records). mark_all (literals_in r) marks) (records_none s depth at end e)) ∙ marking.whole
 
-  module _ (d : next ≡ at → ⊥) where
+  module _ (next : ℕ) (f : Next s at end next) where
     stop : next ≡ stop_at s at
-    stop = stops_at s at end next f d
+    stop = f.is
 
     one_more : records_at s depth at end ≡ record_with (records_at s (depth - 1)) s at (records_at s depth (stop_at s at) end)
     one_more =
-        let g = f.found d in
         let z : suc (depth - 1) ≡ depth = omega arith in
         subst (λ (k : ℕ). records_at s k at end ≡ record_with (records_at s (depth - 1)) s at (records_at s k (stop_at s at) end)) z
-        (records_more s (depth - 1) at end (omega (arith, g.1, g.2)) inside g.0 (omega (arith, g.1, stop)))
+        (records_more s (depth - 1) at end (omega (arith, f.head, f.inside)) inside f.whole (omega (arith, f.head, stop)))
 
     -- What a turn marks, with its children from `inner` to x
     abbrev turn : (inner x : ℕ) → (marks₁ : List ℕ) → List ℕ
@@ -137,20 +132,7 @@ module _ (s : List ℕ) (at kind : ℕ) (marks : List ℕ) (r : Read (half_at s 
   pub here_not : (kind ≡ kinds.integer → ⊥) → marks ≡ marked_here s at marks
   here_not e = sym (rw (ne_eqb (kind_at s at) kinds.integer (λ h. e (r.is ∙ h))) refl)
 
--- Where its children start
-module _ (s : List ℕ) (at stop kind : ℕ) (r : Read (half_at s (at + 4)) 16 kind) (shape : Shape) (shaped : Shaped kind shape) (due : Due) (due-is : due ≡ due_in shape.holds) where
-  free_is : due.free ≡ holds_free_bytes (kind_at s at)
-  free_is = ap (λ (x : Due). x.free) due-is ∙ ap (λ (x : Shape). (due_in x.holds).free) shaped.is ∙ ap (λ (n : ℕ). (due_in (shape_of n).holds).free) r.is
-
-  pub children_none : due.free ≡ true → stop ≡ children_start s at stop
-  children_none e = ap (λ (b : Bool). cond b stop (start_at s at)) (sym e ∙ free_is)
-
-  pub children_some : due.free ≡ false → (n : ℕ) → (n ≡ (shape_of kind).fields) × (n ≤ 2) → at + 16 + 4 * n ≡ children_start s at stop
-  children_some e n n-is =
-      ap (λ (x : ℕ). at + 16 + 4 * x) (n-is.0 ∙ ap (λ (x : ℕ). (shape_of x).fields) r.is)
-      ∙ ap (λ (b : Bool). cond b stop (start_at s at)) (sym e ∙ free_is)
-
--- The same by the bytes before the children
+-- Where its children start, by the bytes before them
 module _ (s : List ℕ) (at stop kind before : ℕ) (r : Read (half_at s (at + 4)) 16 kind) (is : before ≡ bytes_before kind) where
   before_here : before ≡ bytes_before (kind_at s at)
   before_here = is ∙ ap bytes_before r.is

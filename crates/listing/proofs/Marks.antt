@@ -10,8 +10,6 @@ use lib.Dec.{eqb, leb}
 use lib.ListN.{length, get_or, set, take, drop, length-set, replicate, length-replicate, get_or-replicate, get_or-eq_default}
 use lib.Seq.{get_or-set_same, get_or-set_other}
 use borrow.Author.Tests.{eqb-true, eqb-false, leb-true}
-use Rattle.rows.specs.Search.{Decides}
-use Rattle.rows.proofs.Decide.{fails, likewise, by_eqb}
 use Rattle.shape.specs.Kinds as kinds
 use Rattle.record_bytes.specs.Bytes.{word_at, head_size, Read}
 use Rattle.names.specs.Names.{stands}
@@ -138,14 +136,6 @@ module _ (s marks₀ : List ℕ) (given : (length s ≤ max_bytes) × (marks₀ 
 pub all_marked : (s before marks : List ℕ) → marks ≡ mark_all (literals_in (records_at s max_depth 0 (length s))) before → marks ≡ mark_all (literal_places s) before
 unfolding literal_places
 all_marked s before marks e = e
-
--- Whether a place is marked
-module _ (s marks : List ℕ) (marked : Marked s marks) (place : ℕ) where
-  pub literal_past : length s ≤ place → Decides (IsLiteral s place) false
-  literal_past p = fails (λ h. let m = marked.all place h in omega (arith, m.0))
-
-  pub literal_mark : place < length s → Decides (IsLiteral s place) (eqb (get_or marks place 0) 1)
-  literal_mark p = likewise (get_or marks place 0 ≡ 1) (IsLiteral s place) _ (by_eqb (get_or marks place 0) 1) (marked.is place p) (λ h. (marked.all place h).1)
 
 -- A literal's digits
 module _ (s : List ℕ) (place long : ℕ) (read : Read (word_at s place) 32 long) where

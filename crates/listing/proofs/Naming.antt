@@ -3,12 +3,13 @@ use Prim.Native.Nat.{ℕ, ◌+◌, ◌≤◌, ◌<◌}
 use native.Mathlib.Omega.{arith}
 use native.Mathlib.Decide.{dec_le}
 use mathlib.Core.Path.{◌≡◌, refl, sym, ap, ◌∙◌, subst}
+use mathlib.Core.Bool.{false}
 use mathlib.Core.List.{List, [], ◌∷◌, ◌++◌}
 use lib.ListN.{length, get_or, set, length-set, get_or-append}
 use lib.Seq.{get_or-set_same, get_or-set_other, get_or_at}
-use Rattle.names.specs.Names.{Following, NamesEnd}
+use Rattle.names.specs.Names.{stands, Next, NamesEnd}
 use Rattle.layout.specs.Layout.{max_bytes}
-use Rattle.names.proofs.NameLaws.{Passed, passed_start, passed_on, passed_all, count_done, count_short, stops_at}
+use Rattle.names.proofs.NameLaws.{Passed, passed_start, passed_on, passed_all, count_done, count_short}
 use Rattle.listing.specs.Names.{max_names, NameStands, NamesFound}
 
 -- The first `count` names are listed, and the next stands at `at`, if there is one
@@ -42,11 +43,11 @@ naming_start s end e p places =
     }
 
 module _ (s : List ℕ) (small : length s ≤ max_bytes) (end : ℕ) (ends : NamesEnd s end) (before places : List ℕ) (wide : max_names ≤ length before) where
-  module _ (at count next : ℕ) (naming : Naming s end before places at count) (f : Following s at end next) where
-    pub naming_done : next ≡ at → NamesFound s before places count
+  module _ (at count : ℕ) (naming : Naming s end before places at count) where
+    pub naming_done : stands s at end ≡ false → NamesFound s before places count
     naming_done e =
-        let p = passed_all s end at count next naming.passed f e in
-        let c = count_done s end at count next naming.passed f e in
+        let p = passed_all s end at count naming.passed e in
+        let c = count_done s end at count naming.passed e in
         record {
           listed = record {
             room = omega (arith, naming.few, naming.long);
@@ -58,9 +59,9 @@ module _ (s : List ℕ) (small : length s ≤ max_bytes) (end : ℕ) (ends : Nam
           past = λ n q. naming.past n (omega arith);
         }
 
-    module _ (d : next ≡ at → ⊥) where
+    module _ (next : ℕ) (f : Next s at end next) where
       pub count_low : count < length places
-      count_low = let g = f.found d in omega (arith, g.1, g.2, naming.passed.room, naming.long, ends.inside)
+      count_low = omega (arith, f.head, f.inside, naming.passed.room, naming.long, ends.inside)
 
       new : get_or (set places count at) count 0 ≡ at
       new = get_or-set_same places count at 0 count_low
@@ -79,16 +80,15 @@ module _ (s : List ℕ) (small : length s ≤ max_bytes) (end : ℕ) (ends : Nam
       pub naming_more : Naming s end before (set places count at) next (count + 1)
       unfolding passed_on
       naming_more =
-          let g = f.found d in
           record {
-            passed = passed_on s end at count next naming.passed f d;
+            passed = passed_on s end at count naming.passed next f;
             long = length-set places count at ∙ naming.long;
-            few = omega (arith, g.1, g.2, naming.passed.room, ends.inside);
+            few = omega (arith, f.head, f.inside, naming.passed.room, ends.inside);
             held = by_place (λ n. get_or (set places count at) n 0 ≡ get_or (naming.passed.before ++ (at ∷ [])) n 0)
                 (new ∙ sym (get_or_at naming.passed.before at [] 0 count naming.passed.many))
                 (λ n q. kept n (λ e. omega arith) ∙ naming.held n q ∙ sym (get_or-append naming.passed.before (at ∷ []) 0 n (omega (arith, naming.passed.many))));
             stand = by_place (λ n. NameStands s (get_or (set places count at) n 0))
-                (subst (NameStands s) (sym new) (let h = stops_at s at end next f d in record { head = omega (arith, g.1); whole = omega (arith, g.2, ends.inside) }))
+                (subst (NameStands s) (sym new) (record { head = omega (arith, f.is, f.head); whole = omega (arith, f.is, f.inside, ends.inside) }))
                 (λ n q. subst (NameStands s) (sym (kept n (λ e. omega arith))) (naming.stand n q));
             past = λ n q. kept n (λ e. omega arith) ∙ naming.past n (omega arith);
           }

@@ -1,7 +1,7 @@
 // Where the names and the integer literals of a module stand.
 #![tactic(auto)]
 
-ghost use Rattle.std.specs.Prelude.{◌≡◌, ◌≤◌, length, replicate};
+ghost use Rattle.std.specs.Prelude.{◌≡◌, ◌≤◌, ◌<◌, IfSome, length, replicate, unwrap_or};
 ghost use Rattle.rows.specs.Search.{Decides};
 ghost use Rattle.record_bytes.specs.Bytes.{head_end};
 ghost use Rattle.layout.specs.Layout.{max_bytes};
@@ -28,20 +28,18 @@ pub fn list_names(s: &[u8], places: &mut [u16]) -> u32
         return 0;
     }
     let end = names_end(s);
-    let mut at: usize = FIRST_NAME;
+    let mut at = FIRST_NAME;
     let mut count: u32 = 0;
-    loop {
-        let next = next_place(s, at, end);
-        if next == at {
-            return count;
-        }
+    // No `for`: where a record starts is read from the one before it.
+    while let Some(next) = next_place(s, at, end) {
         places[count as usize] = at as u16;
         at = next;
         count += 1;
     }
+    count
 }
 
-// Marks the place of a record if it is a literal.
+// Marks the place of a record if it is a literal. A mark is a 1 and no `bool`, as the definition `Marked` has it.
 fn mark_here(s: &[u8], at: usize, marks: &mut [u8])
     requires { (head_end at ≤ length s.now) × (length s.now ≤ length marks.old) }
     ensures { marks.new ≡ marked_here s.now at marks.old }
@@ -51,10 +49,11 @@ fn mark_here(s: &[u8], at: usize, marks: &mut [u8])
     }
 }
 
-// How many bytes stand before the children in a record of a kind; 0 if free bytes follow its fields. The functions of
+// How many bytes stand before the children in a record of a kind, if no free bytes follow its fields. The functions of
 // `shape` are not asked: with a second use they are no longer compiled into the walks (docs/PERFORMANCE.md).
-fn bytes_before(kind: u32) -> usize
-    ensures { result ≡ bytes_before kind }
+fn bytes_before(kind: u32) -> Option<usize>
+    ensures value { unwrap_or result 0 ≡ bytes_before kind }
+    ensures some { IfSome result (λ before. 0 < before) }
 {
     match kind {
         kinds::NAME
@@ -62,7 +61,7 @@ fn bytes_before(kind: u32) -> usize
         | kinds::STRING
         | kinds::INLINE_ASSEMBLY
         | kinds::USE_ITEM
-        | kinds::ASSEMBLY_ITEM => 0,
+        | kinds::ASSEMBLY_ITEM => None,
         kinds::NAMED_TYPE
         | kinds::ARRAY_TYPE
         | kinds::IDENTIFIER
@@ -70,7 +69,7 @@ fn bytes_before(kind: u32) -> usize
         | kinds::FIELD_ACCESS
         | kinds::ARITHMETIC_BIN_OP
         | kinds::COMPARISON_BIN_OP
-        | kinds::TYPE_ALIAS => FIELDS_END,
+        | kinds::TYPE_ALIAS => Some(FIELDS_END),
         kinds::NAMED_TYPE..=kinds::FIELD
         | kinds::CALL..=kinds::SIZEOF
         | kinds::COMPOUND_FIELD
@@ -78,8 +77,8 @@ fn bytes_before(kind: u32) -> usize
         | kinds::VARIABLE_DECLARATION
         | kinds::FUNCTION_DEFINITION
         | kinds::GLOBAL_DECLARATION
-        | kinds::PARAMETER => FIELD_END,
-        _ => HEAD_END,
+        | kinds::PARAMETER => Some(FIELD_END),
+        _ => Some(HEAD_END),
     }
 }
 
@@ -88,11 +87,10 @@ fn children_start(s: &[u8], at: usize, stop: usize) -> usize
     requires { (head_end at ≤ stop) × (stop ≤ length s.now) }
     ensures { result ≡ children_start s.now at stop }
 {
-    let before = bytes_before(half(s, at + KIND));
-    if before == 0 {
-        return stop;
+    match bytes_before(half(s, at + KIND)) {
+        Some(before) => at + before,
+        None => stop,
     }
-    at + before
 }
 
 // Marks the places of the literals among the records from `from` to `end`, so many levels deep.
@@ -104,11 +102,8 @@ fn mark_records(s: &[u8], depth: usize, from: usize, end: usize, marks: &mut [u8
         return;
     }
     let mut at = from;
-    loop {
-        let next = next_place(s, at, end);
-        if next == at {
-            return;
-        }
+    // No `for`: where a record starts is read from the one before it.
+    while let Some(next) = next_place(s, at, end) {
         mark_here(s, at, marks);
         let inner = children_start(s, at, next);
         mark_records(s, depth - 1, inner, next, marks);
@@ -131,10 +126,7 @@ pub fn is_literal(s: &[u8], marks: &[u8], place: u32) -> bool
     ensures { Decides (IsLiteral s.now place) result }
 {
     let at = place as usize;
-    if s.len() <= at {
-        return false;
-    }
-    marks[at] == 1
+    at < s.len() && marks[at] == 1
 }
 
 // The digits of the literal at a place.
@@ -144,7 +136,7 @@ pub fn literal_text(s: &[u8], place: usize) -> &[u8]
 {
     let length = length_at(s, place);
     if length < FIELDS_END {
-        return &s[..0];
+        return &[];
     }
     let stop = place + length;
     let start = place + FIELDS_END;

@@ -7,7 +7,7 @@ pub const BYTES: usize = 256;
 
 // Each byte's worth as a digit: digits and letters of either case have their worth in base 36, every other byte has
 // 255, which is a digit of no base.
-const DIGIT_VALUES: [u8; 256] = [
+const DIGIT_VALUES: [u16; BYTES] = [
     255, 255, 255, 255, 255, 255, 255, 255, 255, 255, 255, 255, 255, 255, 255, 255, 255, 255, 255,
     255, 255, 255, 255, 255, 255, 255, 255, 255, 255, 255, 255, 255, 255, 255, 255, 255, 255, 255,
     255, 255, 255, 255, 255, 255, 255, 255, 255, 255, 0, // '0'
@@ -31,10 +31,5 @@ pub fn put_digits(table: &mut [u16])
     requires { length table.old ≡ bytes }
     ensures { DigitTable table.new }
 {
-    let values = DIGIT_VALUES;
-    let mut byte: usize = 0;
-    while byte < BYTES {
-        table[byte] = values[byte] as u16;
-        byte += 1;
-    }
+    table.copy_from_slice(&DIGIT_VALUES);
 }

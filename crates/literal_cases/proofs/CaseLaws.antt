@@ -7,35 +7,38 @@ use native.Mathlib.Omega.{arith}
 use lib.ListN.{length, take, drop, length-drop, drop_of_length-le}
 use lib.Seq.{take_all, drop-drop}
 use borrow.Author.Tests.{lt-ltb, le-ltb}
+use Rattle.std.specs.Prelude as code
 use Rattle.literal.specs.Literal.{from_str_radix, parsed_value}
-use Rattle.literal.specs.declared.Parsed.{Parsed}
-use Rattle.program_support.specs.Buffer.{Piece, a_text, PutAll, PutSome}
-use Rattle.program_support.proofs.BufferLaws.{then_all, some_then, some_first}
-use Rattle.literal_cases.specs.declared.Base.{Base}
-use Rattle.literal_cases.specs.declared.Base.TheVariants.{Is, None}
+use Rattle.program_support.specs.Buffer.{Piece, a_text}
+use Rattle.program_support.specs.Lines.{Puts, PutsSome}
+use Rattle.program_support.specs.declared.print.Buffer.{Buffer}
+use Rattle.program_support.proofs.BufferLaws.{puts_none, puts_then, some_then, some_first}
 use Rattle.literal_cases.specs.Numbers.{decimal, base_read}
 use Rattle.literal_cases.specs.Places.{index_of}
+use Rattle.std.specs.Prelude.{position, ◌==◌}
+use Rattle.literal_cases.proofs.PlaceLaws.{found, absent}
 use Rattle.literal_cases.specs.Lines.{answer_line, not_a_case, text_line, line_at, case_line, lines_from, case_lines}
 
 -- ---- a line: where its blank is, and what is known of the pieces that answer it
-module _ (line : List ℕ) (blank : ℕ) (found : blank ≡ 0 + index_of 32 line) (P : List Piece → Type 0) where
-  answered : P (line_at blank line) → P (case_line line)
+module _ (line : List ℕ) (P : List Piece → Type 0) where
+  pub no_blank : code.None ≡ position (λ b. b == 32) line → P (a_text not_a_case ∷ []) → P (case_line line)
   unfolding case_line
-  answered h =
-      let e : blank ≡ index_of 32 line = omega (arith, found) in
-      subst (λ (n : ℕ). P (line_at n line)) e h
+  no_blank missing h =
+      let end : length line ≡ index_of 32 line = absent 32 line missing in
+      subst (λ (n : ℕ). P (line_at n line)) end (rw (le-ltb (length line) (length line) (omega arith)) h)
 
-  pub no_blank : length line ≤ blank → P (a_text not_a_case ∷ []) → P (case_line line)
-  no_blank p h = answered (rw (le-ltb blank (length line) p) h)
-
-  module _ (more : blank < length line) (base : Base) (is : base_read base ≡ decimal (take blank line)) where
+  module _ (blank : ℕ) (known : code.Some blank ≡ position (λ b. b == 32) line) (base : code.Option ℕ) (is : base_read base ≡ decimal (take blank line)) where
     text_answered : (o : Option ℕ) → base_read base ≡ o → P (text_line o (drop (blank + 1) line)) → P (case_line line)
-    text_answered o e h = answered (rw (lt-ltb blank (length line) more) (subst (λ (x : Option ℕ). P (text_line x (drop (blank + 1) line))) (sym e ∙ is) h))
+    unfolding case_line
+    text_answered o e h =
+        let there = found 32 line blank known in
+        subst (λ (n : ℕ). P (line_at n line)) there.0
+        (rw (lt-ltb blank (length line) there.1) (subst (λ (x : Option ℕ). P (text_line x (drop (blank + 1) line))) (sym e ∙ is) h))
 
-    pub no_base : base ≡ None → P (a_text not_a_case ∷ []) → P (case_line line)
+    pub no_base : base ≡ code.None → P (a_text not_a_case ∷ []) → P (case_line line)
     no_base e h = text_answered none (ap base_read e) h
 
-    pub a_base : (number : ℕ) (parsed : Parsed) → base ≡ Is number → parsed_value parsed ≡ from_str_radix number (take (length line - (blank + 1)) (drop (blank + 1) line))
+    pub a_base : (number : ℕ) (parsed : code.Option ℕ) → base ≡ code.Some number → parsed_value parsed ≡ from_str_radix number (take (length line - (blank + 1)) (drop (blank + 1) line))
         → P (answer_line (parsed_value parsed)) → P (case_line line)
     a_base number parsed e v h =
         let text = drop (blank + 1) line in
@@ -60,23 +63,22 @@ lines_more (suc most) (byte ∷ input) p q =
     ap (λ (n : ℕ). case_line (take end (byte ∷ input)) ++ lines_from n (drop end input)) e
 
 -- What is known before the line at a place: once the answers to it and the lines behind it are put, all are, and if some are, some are
-pub record Left (input buffer₀ : List ℕ) (used at : ℕ) (buffer : List ℕ) (held : ℕ) : Type 0 where
+pub record Left {A : Type 0} {w : ℕ} (input : List ℕ) (first : Buffer A w) (at : ℕ) (now : Buffer A w) : Type 0 where
   pub most : ℕ
   pub enough : length input - at ≤ most
-  pub all : (b : List ℕ) (u : ℕ) → PutAll (lines_from most (drop at input)) buffer held b u → PutAll (case_lines input) buffer₀ used b u
-  pub some : (b : List ℕ) → PutSome (lines_from most (drop at input)) buffer held b → PutSome (case_lines input) buffer₀ used b
+  pub all : (b : Buffer A w) → Puts (lines_from most (drop at input)) now b → Puts (case_lines input) first b
+  pub some : (b : Buffer A w) → PutsSome (lines_from most (drop at input)) now b → PutsSome (case_lines input) first b
 
-module _ (input buffer₀ : List ℕ) (used : ℕ) where
-  pub left_first : Left input buffer₀ used 0 buffer₀ used
+module _ {A : Type 0} {w : ℕ} (input : List ℕ) where
+  pub left_first : (first : Buffer A w) → Left input first 0 first
   unfolding case_lines
-  left_first = record { most = length input; enough = omega arith; all = λ b u h. h; some = λ b h. h }
+  left_first first = record { most = length input; enough = omega arith; all = λ b h. h; some = λ b h. h }
 
-  module _ (at : ℕ) (buffer : List ℕ) (held : ℕ) (left : Left input buffer₀ used at buffer held) where
-    pub left_none : length input ≤ at → PutAll (case_lines input) buffer₀ used buffer held
-    unfolding PutAll
+  module _ {first : Buffer A w} {at : ℕ} {now : Buffer A w} (left : Left input first at now) where
+    pub left_none : length input ≤ at → Puts (case_lines input) first now
     left_none p =
         let e : lines_from left.most (drop at input) ≡ [] = ap (lines_from left.most) (drop_of_length-le input p) ∙ lines_none left.most in
-        left.all buffer held (subst (λ (ps : List Piece). PutAll ps buffer held buffer held) (sym e) (refl, refl))
+        left.all now (subst (λ (ps : List Piece). Puts ps now now) (sym e) (puts_none now))
 
     module _ (end : ℕ) (found : end ≡ at + index_of 10 (drop at input)) where
       module _ (more : at < length input) where
@@ -93,21 +95,14 @@ module _ (input buffer₀ : List ℕ) (used : ℕ) where
             ∙ ap (λ (m : ℕ). case_line (take m lines) ++ lines_from (left.most - 1) (drop (suc k) lines)) line
             ∙ ap (λ (l : List ℕ). case_line (take (end - at) lines) ++ lines_from (left.most - 1) l) rest
 
-        pub left_next : (buffer₁ : List ℕ) (held₁ : ℕ) → PutAll (case_line (take (end - at) (drop at input))) buffer held buffer₁ held₁ → Left input buffer₀ used (end + 1) buffer₁ held₁
-        left_next buffer₁ held₁ put =
-            let line = case_line (take (end - at) (drop at input)) in
-            let n = left.most - 1 in
-            record {
-              most = n;
-              enough = omega (arith, left.enough, found);
-              all = λ b u h. left.all b u (subst (λ (ps : List Piece). PutAll ps buffer held b u) (sym step)
-                  (then_all line (lines_from n (drop (end + 1) input)) buffer held buffer₁ held₁ b u put h));
-              some = λ b h. left.some b (subst (λ (ps : List Piece). PutSome ps buffer held b) (sym step)
-                  (some_then line (lines_from n (drop (end + 1) input)) buffer held buffer₁ held₁ b put h));
-            }
+        pub left_next : {next : Buffer A w} → Puts (case_line (take (end - at) (drop at input))) now next → Left input first (end + 1) next
+        left_next put = record {
+          most = left.most - 1;
+          enough = omega (arith, left.enough, found);
+          all = λ b h. left.all b (subst (λ (ps : List Piece). Puts ps now b) (sym step) (puts_then put h));
+          some = λ b h. left.some b (subst (λ (ps : List Piece). PutsSome ps now b) (sym step) (some_then put h));
+        }
 
         -- The line was not put whole
-        pub left_some : (b : List ℕ) → PutSome (case_line (take (end - at) (drop at input))) buffer held b → PutSome (case_lines input) buffer₀ used b
-        left_some b h =
-            left.some b (subst (λ (ps : List Piece). PutSome ps buffer held b) (sym step)
-            (some_first (case_line (take (end - at) (drop at input))) (lines_from (left.most - 1) (drop (end + 1) input)) buffer held b h))
+        pub left_some : {b : Buffer A w} → PutsSome (case_line (take (end - at) (drop at input))) now b → PutsSome (case_lines input) first b
+        left_some {b} h = left.some b (subst (λ (ps : List Piece). PutsSome ps now b) (sym step) (some_first (lines_from (left.most - 1) (drop (end + 1) input)) h))

@@ -1,6 +1,7 @@
 -- The digits of a base read one after the other: what is left to answer at each place. Assumes nothing.
 use Prim.Native.Nat.{ℕ, ◌+◌, ◌-◌, ◌*◌, ◌≤◌, ◌<◌}
 use mathlib.Core.Path.{◌≡◌}
+use mathlib.Core.Logic.{◌⊎◌, inl, inr}
 use mathlib.Core.Bool.{and-false}
 use mathlib.Core.List.{List, ◌∷◌}
 use mathlib.Core.Option.{none, some}
@@ -29,13 +30,10 @@ module _ (digits : List ℕ) where
       next : drop i digits ≡ get_or digits i 0 ∷ drop (i + 1) digits
       next = rw (add-one, drop-cons digits i 0)
 
-      pub below_digits : get_or digits i 0 < 48 → none ≡ decimal digits
+      pub no_digit : (get_or digits i 0 < 48) ⊎ (48 ≤ get_or digits i 0 × 57 < get_or digits i 0) → none ≡ decimal digits
       unfolding decimal_from
-      below_digits p = simp (known, next, lt-leb 48 (get_or digits i 0) p)
-
-      pub past_digits : 57 < get_or digits i 0 → none ≡ decimal digits
-      unfolding decimal_from
-      past_digits p = simp (known, next, lt-leb (get_or digits i 0) 57 p, and-false)
+      no_digit (inl p) = simp (known, next, lt-leb 48 (get_or digits i 0) p)
+      no_digit (inr p) = simp (known, next, lt-leb (get_or digits i 0) 57 p.1, and-false)
 
       module _ (low : 48 ≤ get_or digits i 0) (high : get_or digits i 0 ≤ 57) where
         pub too_large : 4294967295 < number * 10 + (get_or digits i 0 - 48) → none ≡ decimal digits

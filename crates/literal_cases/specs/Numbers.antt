@@ -1,8 +1,7 @@
 -- The base of a case: a number of 32 bits in decimal digits.
 use Rattle.std.specs.Prelude.{ℕ, ◌+◌, ◌-◌, ◌*◌, cond, ◌&&◌, List, [], ◌∷◌, leb, ltb, length}
 use Rattle.std.proofs.Math.Option.{Option, none, some}
-use Rattle.literal_cases.specs.declared.Base.{Base}
-use Rattle.literal_cases.specs.declared.Base.TheVariants.{Is, None}
+use Rattle.std.specs.Prelude as code
 
 -- The number that digits give behind others of the value `number`: all of them are `0` (48) to `9`, and it fits 32 bits
 unfoldable pub decimal_from : (number : ℕ) → List ℕ → Option ℕ
@@ -16,7 +15,7 @@ decimal_from number (byte ∷ digits) =
 unfoldable pub decimal : List ℕ → Option ℕ
 decimal digits = cond (ltb 0 (length digits)) (decimal_from 0 digits) none
 
--- What each case of the code's answer stands for
-abbrev pub base_read : Base → Option ℕ
-base_read (Is number) = some number
-base_read None = none
+-- What the code's answer stands for
+abbrev pub base_read : code.Option ℕ → Option ℕ
+base_read (code.Some number) = some number
+base_read code.None = none

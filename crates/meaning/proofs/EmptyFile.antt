@@ -16,8 +16,7 @@ use Rattle.fallible.specs.Errors.{error_width}
 use Rattle.shape.specs.Shape.{shape_of, due_in, is_done, may_stand, state_after, allowed}
 use Rattle.record_bytes.specs.Bytes.{half_at, word_at}
 use Rattle.layout.specs.Layout.{layout_of, layout_refusal, list_at, record_at, head_at, is_bad}
-use Rattle.layout.specs.declared.Layout.{Layout}
-use Rattle.layout.specs.declared.Layout.TheVariants.{Good}
+use Rattle.layout.specs.Layout.{Layout, Good}
 use Rattle.names.specs.Names.{stands, chain, names_end, name_places, names_of, name_count, repeat_in, repeated_name, name_refusal, item_places, items_of}
 use Rattle.trees.specs.Example.{head}
 use Rattle.layout.proofs.LayoutLaws.{layout_short}

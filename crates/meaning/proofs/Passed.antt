@@ -9,9 +9,8 @@ use lib.Dec.{ltb}
 use borrow.Author.Tests.{ltb-false}
 use Rattle.fallible.specs.Outcome.{accepted, first_refusing, outcome_after}
 use Rattle.fallible.specs.Errors.{error_width}
-use Rattle.layout.specs.Layout.{layout_of, layout_refusal}
+use Rattle.layout.specs.Layout.{Good, layout_of, layout_refusal}
 use Rattle.names.specs.Names.{repeated_name, name_refusal}
-use Rattle.layout.specs.declared.Layout.TheVariants.{Good}
 use Rattle.layout.proofs.LayoutLaws.{only_good}
 use Rattle.meaning.specs.Context.{All}
 use Rattle.meaning.specs.Promise.{Counts, counts_of, Lengths, refuse_if, tests, answer_of}

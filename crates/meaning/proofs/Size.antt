@@ -15,10 +15,9 @@ use Rattle.shape.specs.declared.Holds.TheVariants.{Items, Names}
 use Rattle.shape.proofs.ShapeLaws.{kind_range}
 use Rattle.record_bytes.specs.Bytes.{word_at}
 use Rattle.names.specs.Names.{stands, chain, names_end, name_places, name_bytes, names_of, item_places, item_bytes, items_of, is_among, repeat_in, repeated_name}
-use Rattle.layout.specs.Layout.{kind_at, stop_at, is_empty_file, layout_of}
+use Rattle.layout.specs.Layout.{Good, kind_at, stop_at, is_empty_file, layout_of}
 use Rattle.node.specs.Fine.{FineList, Opened}
-use Rattle.names.specs.declared.Repeated.TheVariants.{At}
-use Rattle.layout.specs.declared.Layout.TheVariants.{Good}
+use Rattle.std.proofs.Common.{Some}
 use Rattle.node.proofs.Open.{opened, opened_kind, split_may, fine_stands}
 use Rattle.node.proofs.Open.{ModuleRecord, empty_or_record, module_parts, names_room, names_end_none, items_list, item_chain}
 
@@ -155,7 +154,7 @@ unfolding repeat_in
 same_repeat m k earlier [] e = refl
 same_repeat m k earlier (p ∷ ps) e =
     let same = head-eq_of_cons-eq e in
-    ap₂ (λ n r. pick (is_among n earlier) (At p) r) same
+    ap₂ (λ n r. pick (is_among n earlier) (Some p) r) same
     (same_repeat m k (earlier ++ (name_bytes m p ∷ [])) ps (tail-eq_of_cons-eq e) ∙ ap (λ n. repeat_in k (earlier ++ (n ∷ [])) ps) same)
 
 pub same_repeated : (m k : List ℕ) → layout_of m ≡ Good → layout_of k ≡ Good → names_of m ≡ names_of k → repeated_name m ≡ repeated_name k

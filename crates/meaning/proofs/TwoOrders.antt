@@ -6,12 +6,11 @@ use mathlib.Core.Logic.{◌≢◌}
 use mathlib.Core.List.Permᴰ
 use mathlib.Core.List.{List, [], ◌∷◌, ◌++◌, Nodup, Nodup-nil, Nodup-cons, not-mem-nil, mem-singleton}
 use Rattle.shape.specs.Shape.{shape_of, due_in, is_done, may_stand, state_after, allowed}
-use Rattle.layout.specs.declared.Layout.TheVariants.{Good}
 use native.Mathlib.Omega.{arith}
 use native.Mathlib.Nat.{ℕ_set}
 use lib.ListN.{length}
 use Rattle.record_bytes.specs.Bytes.{half_at, word_at}
-use Rattle.layout.specs.Layout.{layout_of, list_at, record_at, head_at, is_bad}
+use Rattle.layout.specs.Layout.{Good, layout_of, list_at, record_at, head_at, is_bad}
 use Rattle.names.specs.Names.{chain, stands, names_end, name_places, name_bytes, names_of, name_count, item_places, item_bytes, items_of, same_bytes}
 use Rattle.trees.specs.Record.{records_with, records_at, to_type, item_tree}
 use Rattle.trees.specs.Tree.{location, name_type, no_value, Item, type_alias, global_declaration}

@@ -5,8 +5,7 @@ use Rattle.types.specs.Ty.{same}
 use Rattle.types.specs.Table.{SameSizes}
 use Rattle.fallible.specs.Outcome.{Outcome, refused, accepted}
 use Rattle.record_bytes.specs.Bytes.{byte_at}
-use Rattle.layout.specs.Layout.{is_empty_file, layout_of}
-use Rattle.layout.specs.declared.Layout.TheVariants.{Good}
+use Rattle.layout.specs.Layout.{Good, is_empty_file, layout_of}
 use Rattle.names.specs.Names.{names_of, items_of, same_bytes}
 use Rattle.trees.specs.Record.{item_slot_places}
 use Rattle.trees.specs.Tree.{TypeNode, name_type, void_type, pointer_type, array_type, struct_type, no_fields, field_then}

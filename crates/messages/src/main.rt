@@ -6,68 +6,48 @@ ghost use Rattle.std.specs.Prelude.{◌≡◌, replicate};
 
 use program_support::input::read_full;
 use program_support::loans;
-use program_support::print::{flush, print_refused};
+use program_support::print::print_refused;
 use std::io;
-use type_check::Answer;
+use type_check::{Counts, type_check_module};
 
 // Room for the longest text.
 const ROOM: usize = text::LONGEST as usize;
 
-// Prints the messages of a module that is checked, with this room for their text.
-fn print_messages(
-    out: &impl Print,
-    input: &[u8],
-    row_count: u32,
-    rows: &[u32],
-    error_count: usize,
-    errors: &[u32],
-    work: &mut [u32],
-    text: &mut [u8],
-) -> io::Result<()> {
-    let answer = error_messages::messages(
-        input,
-        rows,
-        row_count,
-        errors,
-        error_count,
-        b"String",
-        work,
-        text,
-    );
-    match answer {
-        error_messages::Answer::Refused { number, place } => print_refused(out, number, place),
-        error_messages::Answer::Written(length) => flush(out, text, length),
-    }
+// Prints the first bytes of a text.
+fn print_text(out: &impl Print, text: &[u8], length: usize) -> io::Result<()> {
+    out.write_all(&text[..length.min(text.len())])
 }
 
-// A text of as many bytes.
+// A text of as many bytes. So long a list of zeros stops the check where more is known beside it.
 fn blank_text() -> [u8; ROOM]
     ensures { result ≡ replicate 1048576 0 }
 {
-    [0u8; ROOM]
+    [0; ROOM]
 }
 
-// Lends the working words and the text.
+// Prints the messages of a module that is checked.
 fn print_accepted(
     out: &impl Print,
     input: &[u8],
-    row_count: u32,
+    counts: Counts,
     rows: &[u32],
-    error_count: usize,
     errors: &[u32],
 ) -> io::Result<()> {
     let mut work = [0u32; loans::ROW_COUNT];
     let mut text = blank_text();
-    print_messages(
-        out,
+    match error_messages::messages(
         input,
-        row_count,
         rows,
-        error_count,
+        counts.rows,
         errors,
+        counts.errors,
+        b"String",
         &mut work,
         &mut text,
-    )
+    ) {
+        Ok(length) => print_text(out, &text, length),
+        Err(refusal) => print_refused(out, refusal),
+    }
 }
 
 fn main(rt: HostRuntime) -> io::Result<()> {
@@ -77,17 +57,8 @@ fn main(rt: HostRuntime) -> io::Result<()> {
     let mut errors = [0u32; loans::ERRORS];
     let mut work = [0u32; loans::WORK];
     let n = read_full(&mut rt.stdin(), &mut input)?;
-    let answer = type_check::type_check_module(
-        &input[..n],
-        &mut output,
-        &mut rows,
-        &mut errors,
-        &mut work,
-    );
-    match answer {
-        Answer::Refused { number, place } => print_refused(&rt, number, place),
-        Answer::Accepted { rows: r, errors: e } => {
-            print_accepted(&rt, &input[..n], r, &rows, e, &errors)
-        }
+    match type_check_module(&input[..n], &mut output, &mut rows, &mut errors, &mut work) {
+        Ok(counts) => print_accepted(&rt, &input[..n], counts, &rows, &errors),
+        Err(refusal) => print_refused(&rt, refusal),
     }
 }

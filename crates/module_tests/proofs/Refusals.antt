@@ -1,44 +1,34 @@
 -- The tests that turn a module back whatever is lent. Assumes nothing.
 use Prim.Native.Nat.{ℕ}
-use mathlib.Core.Path.{◌≡◌, sym, ◌∙◌, ap}
+use mathlib.Core.Path.{◌≡◌, ◌∙◌, ap}
 use mathlib.Core.List.{List}
 use mathlib.Core.Option.{Option, none, some}
+use Rattle.std.proofs.Common.{Some, None, Err}
 use Rattle.fallible.specs.Outcome.{or_next}
+use Rattle.refusal.specs.Refusal.{number_of, place_of}
 use Rattle.names.specs.Names.{name_refusal, name_test}
-use Rattle.layout.specs.Layout.{layout_refusal, layout_tests}
-use Rattle.layout.specs.declared.Layout.{Layout}
-use Rattle.layout.specs.declared.Layout.TheVariants.{Good, TooLong, Fault, TooDeep}
-use Rattle.names.specs.declared.Repeated.{Repeated}
-use Rattle.names.specs.declared.Repeated.TheVariants.{Nowhere, At}
+use Rattle.layout.specs.Layout.{Good, layout_refusal, layout_tests, cause_of}
+use Rattle.layout.specs.declared.LayoutError.{LayoutError}
+use Rattle.layout.specs.declared.LayoutError.TheVariants.{TooLong, Fault, TooDeep}
 use Rattle.module_tests.specs.Refusal.{module_refusal}
 
--- Test 4
-module _ (input : List ℕ) {r : Repeated} (e : name_refusal r ≡ name_test input) where
-  pub name_repeated : {p : ℕ} → r ≡ At p → some (4, p) ≡ name_test input
+-- Tests 1 to 3
+pub bad_layout : (input : List ℕ) (e : LayoutError) → layout_refusal (Err e) ≡ layout_tests input → some (number_of (cause_of e), place_of (cause_of e)) ≡ module_refusal input
+unfolding layout_refusal
+bad_layout input TooLong h = ap (λ (x : Option (ℕ × ℕ)). or_next x (name_test input)) h
+bad_layout input (Fault p) h = ap (λ (x : Option (ℕ × ℕ)). or_next x (name_test input)) h
+bad_layout input (TooDeep p) h = ap (λ (x : Option (ℕ × ℕ)). or_next x (name_test input)) h
+
+-- then 4
+module _ (input : List ℕ) (good : layout_refusal Good ≡ layout_tests input) where
+  by_names : {x : Option (ℕ × ℕ)} → x ≡ name_test input → x ≡ module_refusal input
+  unfolding layout_refusal
+  by_names e = e ∙ ap (λ (x : Option (ℕ × ℕ)). or_next x (name_test input)) good
+
+  pub no_name_repeated : name_refusal None ≡ name_test input → none ≡ module_refusal input
   unfolding name_refusal
-  name_repeated q = ap name_refusal (sym q) ∙ e
+  no_name_repeated e = by_names e
 
-  pub no_name_repeated : r ≡ Nowhere → none ≡ name_test input
+  pub name_repeated : (p : ℕ) → name_refusal (Some p) ≡ name_test input → some (4, p) ≡ module_refusal input
   unfolding name_refusal
-  no_name_repeated q = ap name_refusal (sym q) ∙ e
-
--- Tests 1 to 3, then 4
-module _ (input : List ℕ) {r : Layout} (e : layout_refusal r ≡ layout_tests input) where
-  by_layout : {y : Layout} → r ≡ y → or_next (layout_refusal y) (name_test input) ≡ module_refusal input
-  by_layout q = ap (λ (x : Option (ℕ × ℕ)). or_next x (name_test input)) (ap layout_refusal (sym q) ∙ e)
-
-  pub too_long : r ≡ TooLong → some (1, 0) ≡ module_refusal input
-  unfolding layout_refusal
-  too_long q = by_layout q
-
-  pub a_fault : {p : ℕ} → r ≡ Fault p → some (2, p) ≡ module_refusal input
-  unfolding layout_refusal
-  a_fault q = by_layout q
-
-  pub too_deep : {p : ℕ} → r ≡ TooDeep p → some (3, p) ≡ module_refusal input
-  unfolding layout_refusal
-  too_deep q = by_layout q
-
-  pub good_layout : {x : Option (ℕ × ℕ)} → r ≡ Good → x ≡ name_test input → x ≡ module_refusal input
-  unfolding layout_refusal
-  good_layout q h = h ∙ by_layout q
+  name_repeated p e = by_names e

@@ -9,10 +9,10 @@ use lib.Dec.{eqb}
 use native.Mathlib.Omega.{arith}
 use borrow.Author.Tests.{eqb-true, eqb-false}
 use Rattle.record_bytes.specs.Bytes.{word_at}
-use Rattle.names.specs.Names.{NamesEnd, name_bytes, same_bytes, is_among, name_refusal, name_test, Following}
+use Rattle.names.specs.Names.{NamesEnd, name_bytes, same_bytes, is_among, name_refusal, name_test, stands, Next}
 use Rattle.name_index.specs.NameIndex.{hashes, indexed, hash_of, Hashed, Standing, Chained, Bucket, NamesIndexed, HasNames, Looked}
-use Rattle.names.specs.declared.Repeated.TheVariants.{Nowhere, At}
-use Rattle.names.proofs.NameLaws.{passed_start, passed_on, stops_at, among_append, same_true, Differing, differ_start, differ_done, differ_hit, differ_on}
+use Rattle.std.proofs.Common.{Some, None}
+use Rattle.names.proofs.NameLaws.{passed_start, passed_on, among_append, same_true, Differing, differ_start, differ_done, differ_hit, differ_on}
 
 -- A search has come to the name at v, or to 0: the text is one of the names if it is one of those that are left
 pub record Rest (s index t : List ℕ) (v : ℕ) (whole : Bool) : Type 0 where
@@ -184,28 +184,29 @@ module _ (s : List ℕ) (end at : ℕ) (index : List ℕ) (k : Indexing s end at
   pub index_listed : HasNames s index
   index_listed = record { before = k.differ.passed.before; limit = at; has = k.has }
 
-  module _ (next : ℕ) (f : Following s at end next) where
-    pub index_done : next ≡ at → name_refusal Nowhere ≡ name_test s
-    index_done e = differ_done s end at k.count next k.differ f e
+  pub index_done : stands s at end ≡ false → name_refusal None ≡ name_test s
+  index_done e = differ_done s end at k.count k.differ e
 
-    module _ (d : next ≡ at → ⊥) (u : List ℕ) (eu : u ≡ name_bytes s at) (h : ℕ) (eh : Hashed u h) (b : Bool) (eb : Looked s index u b) where
+  module _ (next : ℕ) (f : Next s at end next) where
+    module _ (u : List ℕ) (eu : u ≡ name_bytes s at) (h : ℕ) (eh : Hashed u h) (b : Bool) (eb : Looked s index u b) where
       told : is_among (name_bytes s at) (map (name_bytes s) k.differ.passed.before) ≡ b
       told = sym (eb.is k.differ.passed.before at k.has ∙ ap (λ x. is_among x (map (name_bytes s) k.differ.passed.before)) eu)
 
-      pub index_hit : b ≡ true → name_refusal (At at) ≡ name_test s
-      index_hit p = differ_hit s end at k.count next k.differ f d (told ∙ p)
+      pub index_hit : b ≡ true → name_refusal (Some at) ≡ name_test s
+      index_hit p = differ_hit s end at k.count k.differ next f (told ∙ p)
 
       hash_here : (t : List ℕ) → same_bytes (name_bytes s at) t ≡ true → hash_of t ≡ h
       hash_here t e = ap hash_of (sym (same_true (name_bytes s at) t e) ∙ sym eu) ∙ sym eh.is
 
       module _ (inside : end ≤ length s) (short : length s ≤ indexed) where
         few : at < indexed
-        few = let g = f.found d in omega arith
+        few = omega (arith, f.head, f.inside)
 
         standing : Standing s next at
         standing =
-            let g = f.found d in
-            let n = stops_at s at end next f d in
+            let g = f.head in
+            let n = f.is in
+            let l = f.inside in
             let r = k.differ.passed.room in
             record { some = omega arith; head = omega arith; low = omega arith; whole = omega arith }
 
@@ -237,7 +238,7 @@ module _ (s : List ℕ) (end at : ℕ) (index : List ℕ) (k : Indexing s end at
         bucket_other : (j : ℕ) → j < hashes → (j ≡ h → ⊥) → Bucket s after (k.differ.passed.before ++ (at ∷ [])) next j
         bucket_other j l ne =
             let o = k.has.bucket j l in
-            let g = f.found d in
+            let g = f.head in
             record {
               places = o.places;
               chained = subst (λ (x : ℕ). Chained s after next x o.places) (sym (head_other s index at h k.long eh.small few j l ne))
@@ -255,7 +256,7 @@ module _ (s : List ℕ) (end at : ℕ) (index : List ℕ) (k : Indexing s end at
         index_on p =
             record {
               count = k.count + 1;
-              differ = differ_on s end at k.count next k.differ f d (told ∙ p);
+              differ = differ_on s end at k.count k.differ next f (told ∙ p);
               long = simp length-set k.long;
               has = record { bucket = λ j l. go j l (eqb j h) refl };
             }

@@ -3,56 +3,51 @@ use Prim.Native.Nat.{ℕ, zero, suc, ◌+◌, ◌-◌, ◌*◌, ◌≤◌, ◌<�
 use mathlib.Core.Path.{◌≡◌, refl, sym, ◌∙◌, ap}
 use mathlib.Core.Bool.{Bool, true, false, ◌&&◌, ◌||◌}
 use mathlib.Core.List.{List, [], ◌∷◌, ◌++◌, map, map-append, append-nil, append_assoc}
-use lib.ListN.{length, get_or, take, drop, length-append, length-map, drop_of_length-le}
-use lib.Seq.{drop-cons}
+use lib.ListN.{length, take, drop, length-append, length-map}
 use Rattle.shape.proofs.ShapeLaws.{and_both}
-use native.Mathlib.Numerals.{add-one}
 use lib.Dec.{eqb}
+use lib.Pointwise.{pointwise}
 use native.Mathlib.Omega.{arith}
-use borrow.Author.Tests.{lt-leb, le-leb, eq-eqb, ne_eqb, eqb-true}
+use borrow.Author.Tests.{lt-leb, le-leb, eq-eqb, eqb-true}
 use Rattle.shape.specs.Shape.{pick}
 use Rattle.record_bytes.specs.Bytes.{word_at}
-use Rattle.names.specs.Names.{stands, chain, names_end, NamesEnd, name_places, name_bytes, names_of, name_count, same_bytes, is_among, index_of, number_of, repeat_in, repeated_name, name_refusal, name_test, Following}
-use Rattle.names.specs.declared.Repeated.TheVariants.{Nowhere, At}
+use Rattle.names.specs.Names.{stands, chain, names_end, NamesEnd, name_places, name_bytes, names_of, name_count, same_bytes, is_among, index_of, number_of, repeat_in, repeated_name, name_refusal, name_test, Next}
+use Rattle.std.proofs.Common.{Some, None, nat_eq}
 use Rattle.shape.proofs.Cases.{one_less}
 
-none_follows : (s : List ℕ) (at end : ℕ) → stands s at end ≡ false → Following s at end at
-none_follows s at end e = record { is = simp e; found = λ d. absurd (d refl); missing = λ d. e }
-
 module _ (s : List ℕ) (at end : ℕ) where
-  pub next_past : end < at → Following s at end at
+  pub next_past : end < at → stands s at end ≡ false
   unfolding stands
-  next_past p = none_follows s at end (simp (lt-leb (at + 16) end (omega arith)))
+  next_past p = simp (lt-leb (at + 16) end (omega arith))
 
-  module _ (p : at ≤ end) where
-    pub next_room : end - at < 16 → Following s at end at
+  module _ (room : ℕ) (p : (at ≤ end) × (room ≡ end - at)) where
+    pub next_room : room < 16 → stands s at end ≡ false
     unfolding stands
-    next_room q = none_follows s at end (simp (lt-leb (at + 16) end (omega arith)))
+    next_room q = simp (lt-leb (at + 16) end (omega arith))
 
-    module _ (len : ℕ) (e : len ≡ word_at s at) (q : 16 ≤ end - at) where
-      pub next_short : len < 16 → Following s at end at
+    module _ (len : ℕ) (e : len ≡ word_at s at) (q : 16 ≤ room) where
+      pub next_short : len < 16 → stands s at end ≡ false
       unfolding stands
-      next_short r = none_follows s at end (simp (← e, le-leb (at + 16) end (omega arith), lt-leb 16 len r))
+      next_short r = simp (← e, le-leb (at + 16) end (omega arith), lt-leb 16 len r)
 
       module _ (r : 16 ≤ len) where
-        pub next_long : end - at < len → Following s at end at
+        pub next_long : room < len → stands s at end ≡ false
         unfolding stands
-        next_long t = none_follows s at end (simp (← e, le-leb (at + 16) end (omega arith), le-leb 16 len r, lt-leb (at + len) end (omega arith)))
+        next_long t = simp (← e, le-leb (at + 16) end (omega arith), le-leb 16 len r, lt-leb (at + len) end (omega arith))
 
-        pub next_found : len ≤ end - at → Following s at end (at + len)
+        pub next_found : len ≤ room → Next s at end (at + len)
         unfolding stands
         next_found t =
-            let w : stands s at end ≡ true = simp (← e, le-leb (at + 16) end (omega arith), le-leb 16 len r, le-leb (at + len) end (omega arith)) in
-            record { is = simp (w, ← e); found = λ d. (w, omega arith, omega arith); missing = λ d. absurd (omega arith) }
+            record {
+              whole = simp (← e, le-leb (at + 16) end (omega arith), le-leb 16 len r, le-leb (at + len) end (omega arith));
+              is = omega arith;
+              head = omega arith;
+              inside = omega arith;
+            }
 
-module _ (s : List ℕ) (len : ℕ) (e : len ≡ word_at s 16) (q : len < 2 ^ 32) where
-  pub end_cut : length s < 16 + len → NamesEnd s (length s)
-  unfolding names_end
-  end_cut p = record { is = rw (← e) (omega arith); inside = omega arith; small = omega arith }
-
-  pub end_said : 16 + len ≤ length s → NamesEnd s (16 + len)
-  unfolding names_end
-  end_said p = record { is = rw (← e) (omega arith); inside = omega arith; small = omega arith }
+pub ends_at : (s : List ℕ) (len : ℕ) → len ≡ word_at s 16 → len < 2 ^ 32 → NamesEnd s (min (length s) (16 + len))
+unfolding names_end
+ends_at s len e q = record { is = rw (← e) (omega arith); inside = omega arith; small = omega arith }
 
 pub chain_none : (s : List ℕ) (n at end : ℕ) → stands s at end ≡ false → chain n s at end ≡ []
 unfolding chain
@@ -74,9 +69,6 @@ pub count_short : (s : List ℕ) → length s < 20 → 0 ≡ name_count s
 unfolding name_count
 count_short s p = rw (places_short s p)
 
-pub stops_at : (s : List ℕ) (at end next : ℕ) → Following s at end next → (next ≡ at → ⊥) → next ≡ at + word_at s at
-stops_at s at end next f d = f.is ∙ simp (f.found d).0
-
 -- The names before `at`, `count` in number, are passed: their places are `before`
 pub record Passed (s : List ℕ) (end at count : ℕ) : Type 0 where
   pub before : List ℕ
@@ -92,35 +84,33 @@ passed_start s end e p =
     let q = e.inside in
     record { before = []; left = length s; enough = omega arith; whole = ap (λ m. chain (length s) s 32 m) (sym e.is); many = refl; room = omega arith }
 
-module _ (s : List ℕ) (end at count next : ℕ) (k : Passed s end at count) (f : Following s at end next) where
-  pub passed_all : next ≡ at → name_places s ≡ k.before
-  passed_all e = k.whole ∙ rw (chain_none s k.left at end (f.missing e), append-nil)
+module _ (s : List ℕ) (end at count : ℕ) (k : Passed s end at count) where
+  pub passed_all : stands s at end ≡ false → name_places s ≡ k.before
+  passed_all e = k.whole ∙ rw (chain_none s k.left at end e, append-nil)
 
-  -- the place `at` is the next name's
-  pub passed_next : (next ≡ at → ⊥) → name_places s ≡ k.before ++ (at ∷ chain (k.left - 1) s next end)
-  passed_next d =
-      let n = k.left in
-      let b = k.enough in
-      k.whole ∙ rw (chain_more s n at end (omega arith) (f.found d).0, ← stops_at s at end next f d)
-
-  unfoldable pub passed_on : (next ≡ at → ⊥) → Passed s end next (count + 1)
-  passed_on d =
-      let g = f.found d in
-      let n = k.left in
-      let b = k.enough in
-      let m = k.many in
-      record {
-        before = k.before ++ (at ∷ []);
-        left = n - 1;
-        enough = omega arith;
-        whole = passed_next d ∙ simp append_assoc;
-        many = simp length-append (omega arith);
-        room = omega (arith, k.room);
-      }
-
-  pub count_done : next ≡ at → count ≡ name_count s
+  pub count_done : stands s at end ≡ false → count ≡ name_count s
   unfolding name_count
   count_done e = sym k.many ∙ ap length (sym (passed_all e))
+
+  module _ (next : ℕ) (f : Next s at end next) where
+    -- the place `at` is the next name's
+    pub passed_next : name_places s ≡ k.before ++ (at ∷ chain (k.left - 1) s next end)
+    passed_next =
+        let b = k.enough in
+        k.whole ∙ rw (chain_more s k.left at end (omega arith) f.whole, ← f.is)
+
+    unfoldable pub passed_on : Passed s end next (count + 1)
+    passed_on =
+        let b = k.enough in
+        let m = k.many in
+        record {
+          before = k.before ++ (at ∷ []);
+          left = k.left - 1;
+          enough = omega (arith, f.head, f.inside);
+          whole = passed_next ∙ simp append_assoc;
+          many = simp length-append (omega arith);
+          room = omega (arith, k.room, f.head);
+        }
 
 -- Texts
 pub same_refl : (a : List ℕ) → same_bytes a a ≡ true
@@ -128,42 +118,13 @@ unfolding same_bytes
 same_refl [] = refl
 same_refl (x ∷ a) = simp (eq-eqb x x refl) (same_refl a)
 
-pub same_length : (a b : List ℕ) → (length a ≡ length b → ⊥) → false ≡ same_bytes a b
+-- `==` of two texts
+pub same_pointwise : (a b : List ℕ) → pointwise nat_eq a b ≡ same_bytes a b
 unfolding same_bytes
-same_length [] [] d = absurd (d refl)
-same_length [] (y ∷ b) d = refl
-same_length (x ∷ a) [] d = refl
-same_length (x ∷ a) (y ∷ b) d = go (eqb x y) (same_length a b (λ e. d (ap suc e)))
-  where
-    go : (t : Bool) → false ≡ same_bytes a b → false ≡ (t && same_bytes a b)
-    go true e = e
-    go false e = refl
-
--- the texts agree before `i`
-pub record Agreeing (a b : List ℕ) (i : ℕ) : Type 0 where
-  pub inside : i ≤ length a
-  pub rest : same_bytes a b ≡ same_bytes (drop i a) (drop i b)
-
-pub agree_start : (a b : List ℕ) → Agreeing a b 0
-agree_start a b = record { inside = omega arith; rest = refl }
-
-module _ (a b : List ℕ) (i : ℕ) (k : Agreeing a b i) (l : length a ≡ length b) where
-  pub agree_done : length a ≤ i → true ≡ same_bytes a b
-  unfolding same_bytes
-  agree_done p =
-      let q : length b ≤ i = omega arith in
-      sym (k.rest ∙ rw (drop_of_length-le a p, drop_of_length-le b q))
-
-  module _ (p : i < length a) where
-    agree_here : same_bytes a b ≡ eqb (get_or a i 0) (get_or b i 0) && same_bytes (drop (suc i) a) (drop (suc i) b)
-    unfolding same_bytes
-    agree_here = k.rest ∙ rw (drop-cons a i 0 p, drop-cons b i 0 (omega arith))
-
-    pub agree_not : (get_or a i 0 ≡ get_or b i 0 → ⊥) → false ≡ same_bytes a b
-    agree_not d = sym (agree_here ∙ simp (ne_eqb _ _ d))
-
-    pub agree_on : get_or a i 0 ≡ get_or b i 0 → Agreeing a b (i + 1)
-    agree_on e = record { inside = omega arith; rest = agree_here ∙ simp (eq-eqb _ _ e, add-one) }
+same_pointwise [] [] = refl
+same_pointwise [] (y ∷ b) = refl
+same_pointwise (x ∷ a) [] = refl
+same_pointwise (x ∷ a) (y ∷ b) = ap (λ (r : Bool). eqb x y && r) (same_pointwise a b)
 
 pub name_part : (s : List ℕ) (at stop : ℕ) → stop ≡ at + word_at s at → take (stop - (at + 16)) (drop (at + 16) s) ≡ name_bytes s at
 unfolding name_bytes
@@ -214,56 +175,57 @@ pub find_short : (s t : List ℕ) → length s < 20 → 0 ≡ number_of s t
 unfolding number_of names_of index_of
 find_short s t p = rw (places_short s p)
 
-module _ (s : List ℕ) (end at count next : ℕ) (k : Passed s end at count) (f : Following s at end next) where
+module _ (s : List ℕ) (end at count : ℕ) (k : Passed s end at count) where
   names_before : length (map (name_bytes s) k.before) ≡ count
   names_before = length-map k.before (name_bytes s) ∙ k.many
 
-  names_all : next ≡ at → names_of s ≡ map (name_bytes s) k.before ++ []
+  names_all : stands s at end ≡ false → names_of s ≡ map (name_bytes s) k.before ++ []
   unfolding names_of
-  names_all e = rw (passed_all s end at count next k f e, append-nil)
+  names_all e = rw (passed_all s end at count k e, append-nil)
 
-  names_next : (next ≡ at → ⊥) → names_of s ≡ map (name_bytes s) k.before ++ (name_bytes s at ∷ map (name_bytes s) (chain (k.left - 1) s next end))
-  unfolding names_of
-  names_next d = rw (passed_next s end at count next k f d, map-append)
+  module _ (next : ℕ) (f : Next s at end next) where
+    names_next : names_of s ≡ map (name_bytes s) k.before ++ (name_bytes s at ∷ map (name_bytes s) (chain (k.left - 1) s next end))
+    unfolding names_of
+    names_next = rw (passed_next s end at count k next f, map-append)
 
-  -- the number of the name at `at`, where no earlier one is equal to it
-  number_new : (t : List ℕ) → (next ≡ at → ⊥) → is_among t (map (name_bytes s) k.before) ≡ false → same_bytes (name_bytes s at) t ≡ true → count ≡ number_of s t
-  unfolding number_of index_of
-  number_new t d a e =
-      let r = map (name_bytes s) (chain (k.left - 1) s next end) in
-      let v : index_of t (map (name_bytes s) k.before ++ (name_bytes s at ∷ r)) ≡ length (map (name_bytes s) k.before) + 0 =
-      index_past t (map (name_bytes s) k.before) (name_bytes s at ∷ r) a ∙ simp e in
-      let n = names_before in
-      rw (names_next d) (omega (arith, v, n))
+    -- the number of the name at `at`, where no earlier one is equal to it
+    number_new : (t : List ℕ) → is_among t (map (name_bytes s) k.before) ≡ false → same_bytes (name_bytes s at) t ≡ true → count ≡ number_of s t
+    unfolding number_of index_of
+    number_new t a e =
+        let r = map (name_bytes s) (chain (k.left - 1) s next end) in
+        let v : index_of t (map (name_bytes s) k.before ++ (name_bytes s at ∷ r)) ≡ length (map (name_bytes s) k.before) + 0 =
+        index_past t (map (name_bytes s) k.before) (name_bytes s at ∷ r) a ∙ simp e in
+        let n = names_before in
+        rw names_next (omega (arith, v, n))
 
-  number_old : (t : List ℕ) → (next ≡ at → ⊥) → is_among t (map (name_bytes s) k.before) ≡ true → number_of s t < count
-  unfolding number_of
-  number_old t d a =
-      let r = map (name_bytes s) (chain (k.left - 1) s next end) in
-      let v = index_among t (map (name_bytes s) k.before) (name_bytes s at ∷ r) a in
-      let n = names_before in
-      rw (names_next d) (omega (arith, v, n))
+    number_old : (t : List ℕ) → is_among t (map (name_bytes s) k.before) ≡ true → number_of s t < count
+    unfolding number_of
+    number_old t a =
+        let r = map (name_bytes s) (chain (k.left - 1) s next end) in
+        let v = index_among t (map (name_bytes s) k.before) (name_bytes s at ∷ r) a in
+        let n = names_before in
+        rw names_next (omega (arith, v, n))
 
-module _ (s t : List ℕ) (end at count next : ℕ) (k : Finding s t end at count) (f : Following s at end next) where
-  pub find_done : next ≡ at → count ≡ number_of s t
+module _ (s t : List ℕ) (end at count : ℕ) (k : Finding s t end at count) where
+  pub find_done : stands s at end ≡ false → count ≡ number_of s t
   unfolding number_of index_of
   find_done e =
       let v = index_past t (map (name_bytes s) k.passed.before) [] k.absent in
-      let n = names_before s end at count next k.passed f in
-      rw (names_all s end at count next k.passed f e) (omega (arith, v, n))
+      let n = names_before s end at count k.passed in
+      rw (names_all s end at count k.passed e) (omega (arith, v, n))
 
-  module _ (d : next ≡ at → ⊥) (u : List ℕ) (eu : u ≡ name_bytes s at) (b : Bool) (eb : b ≡ same_bytes u t) where
+  module _ (next : ℕ) (f : Next s at end next) (u : List ℕ) (eu : u ≡ name_bytes s at) (b : Bool) (eb : b ≡ same_bytes u t) where
     here : same_bytes (name_bytes s at) t ≡ b
     here = ap (λ x. same_bytes x t) (sym eu) ∙ sym eb
 
     pub find_hit : b ≡ true → count ≡ number_of s t
-    find_hit p = number_new s end at count next k.passed f t d k.absent (here ∙ p)
+    find_hit p = number_new s end at count k.passed next f t k.absent (here ∙ p)
 
     pub find_on : b ≡ false → Finding s t end next (count + 1)
     unfolding is_among passed_on
     find_on p =
         record {
-          passed = passed_on s end at count next k.passed f d;
+          passed = passed_on s end at count k.passed next f;
           absent = rw (map-append (name_bytes s) k.passed.before (at ∷ []), among_append) (simp (k.absent, here, p));
         }
 
@@ -276,22 +238,22 @@ unfoldable pub differ_start : (s : List ℕ) (end : ℕ) → NamesEnd s end → 
 unfolding passed_start repeated_name
 differ_start s end e p = record { passed = passed_start s end e p; rest = ap (λ x. repeat_in s [] x) (passed_start s end e p).whole }
 
-pub differ_short : (s : List ℕ) → length s < 20 → name_refusal Nowhere ≡ name_test s
+pub differ_short : (s : List ℕ) → length s < 20 → name_refusal None ≡ name_test s
 unfolding repeated_name repeat_in
 differ_short s p = rw (places_short s p)
 
-module _ (s : List ℕ) (end at count next : ℕ) (k : Differing s end at count) (f : Following s at end next) where
-  pub differ_done : next ≡ at → name_refusal Nowhere ≡ name_test s
+module _ (s : List ℕ) (end at count : ℕ) (k : Differing s end at count) where
+  pub differ_done : stands s at end ≡ false → name_refusal None ≡ name_test s
   unfolding repeat_in
-  differ_done e = ap name_refusal (sym (k.rest ∙ rw (chain_none s k.passed.left at end (f.missing e))))
+  differ_done e = ap name_refusal (sym (k.rest ∙ rw (chain_none s k.passed.left at end e)))
 
-  module _ (d : next ≡ at → ⊥) where
+  module _ (next : ℕ) (f : Next s at end next) where
     pub here_next : repeated_name s ≡ repeat_in s (map (name_bytes s) k.passed.before) (at ∷ chain (k.passed.left - 1) s next end)
     here_next =
         let b = k.passed.enough in
-        k.rest ∙ rw (chain_more s k.passed.left at end (omega arith) (f.found d).0, ← stops_at s at end next f d)
+        k.rest ∙ rw (chain_more s k.passed.left at end (omega arith) f.whole, ← f.is)
 
-    pub differ_hit : is_among (name_bytes s at) (map (name_bytes s) k.passed.before) ≡ true → name_refusal (At at) ≡ name_test s
+    pub differ_hit : is_among (name_bytes s at) (map (name_bytes s) k.passed.before) ≡ true → name_refusal (Some at) ≡ name_test s
     unfolding repeat_in
     differ_hit e = ap name_refusal (sym (here_next ∙ simp e))
 
@@ -299,7 +261,7 @@ module _ (s : List ℕ) (end at count next : ℕ) (k : Differing s end at count)
     unfolding repeat_in passed_on
     differ_on e =
         record {
-          passed = passed_on s end at count next k.passed f d;
+          passed = passed_on s end at count k.passed next f;
           rest = here_next ∙ rw (map-append (name_bytes s) k.passed.before (at ∷ [])) (simp e);
         }
 
@@ -307,18 +269,18 @@ module _ (s : List ℕ) (end at count next : ℕ) (k : Differing s end at count)
       number_here : m ≡ number_of s (name_bytes s at)
       number_here = em ∙ ap (λ x. number_of s x) eu
 
-      pub number_not : (m ≡ count → ⊥) → name_refusal (At at) ≡ name_test s
+      pub number_not : (m ≡ count → ⊥) → name_refusal (Some at) ≡ name_test s
       number_not q = go (is_among (name_bytes s at) (map (name_bytes s) k.passed.before)) refl
         where
-          go : (b : Bool) → is_among (name_bytes s at) (map (name_bytes s) k.passed.before) ≡ b → name_refusal (At at) ≡ name_test s
+          go : (b : Bool) → is_among (name_bytes s at) (map (name_bytes s) k.passed.before) ≡ b → name_refusal (Some at) ≡ name_test s
           go true e = differ_hit e
-          go false e = absurd (q (number_here ∙ sym (number_new s end at count next k.passed f (name_bytes s at) d e (same_refl (name_bytes s at)))))
+          go false e = absurd (q (number_here ∙ sym (number_new s end at count k.passed next f (name_bytes s at) e (same_refl (name_bytes s at)))))
 
       pub number_on : m ≡ count → Differing s end next (count + 1)
       number_on q = go (is_among (name_bytes s at) (map (name_bytes s) k.passed.before)) refl
         where
           go : (b : Bool) → is_among (name_bytes s at) (map (name_bytes s) k.passed.before) ≡ b → Differing s end next (count + 1)
-          go true e = absurd (let z = number_old s end at count next k.passed f (name_bytes s at) d e in let y = number_here in omega arith)
+          go true e = absurd (let z = number_old s end at count k.passed next f (name_bytes s at) e in let y = number_here in omega arith)
           go false e = differ_on e
 
 pub same_true : (a b : List ℕ) → same_bytes a b ≡ true → a ≡ b

@@ -8,7 +8,7 @@ use lib.Seq.{split_at}
 use native.Mathlib.Omega.{arith}
 use Rattle.shape.specs.Shape.{pick}
 use Rattle.names.specs.Names.{name_places, name_bytes, names_of, name_count, same_bytes, is_among, index_of, number_of, repeat_in, repeated_name}
-use Rattle.names.specs.declared.Repeated.TheVariants.{Nowhere, At}
+use Rattle.std.proofs.Common.{Some, None}
 use Rattle.names.proofs.NameLaws.{same_refl, same_true, index_past}
 
 index_named : (t : List ℕ) (l : List (List ℕ)) → index_of t l < length l → get_or l (index_of t l) [] ≡ t
@@ -41,21 +41,21 @@ unfolding name_count names_of
 name_bytes_lem s i p = map_at (name_bytes s) (name_places s) i p
 
 -- where no name is repeated, none is among those before it
-none_before : (s : List ℕ) (ns : List (List ℕ)) (ps : List ℕ) → repeat_in s ns ps ≡ Nowhere → (i : ℕ) → i < length ps
+none_before : (s : List ℕ) (ns : List (List ℕ)) (ps : List ℕ) → repeat_in s ns ps ≡ None → (i : ℕ) → i < length ps
     → is_among (name_bytes s (get_or ps i 0)) (ns ++ map (name_bytes s) (take i ps)) ≡ false
 unfolding repeat_in
 none_before s ns [] e i p = absurd (omega arith)
 none_before s ns (x ∷ ps) e i p = go (is_among (name_bytes s x) ns) refl e i p (none_before s (ns ++ (name_bytes s x ∷ [])) ps)
   where
-    go : (b : Bool) → is_among (name_bytes s x) ns ≡ b → pick b (At x) (repeat_in s (ns ++ (name_bytes s x ∷ [])) ps) ≡ Nowhere → (i : ℕ) → i < suc (length ps)
-        → (repeat_in s (ns ++ (name_bytes s x ∷ [])) ps ≡ Nowhere → (j : ℕ) → j < length ps → is_among (name_bytes s (get_or ps j 0)) ((ns ++ (name_bytes s x ∷ [])) ++ map (name_bytes s) (take j ps)) ≡ false)
+    go : (b : Bool) → is_among (name_bytes s x) ns ≡ b → pick b (Some x) (repeat_in s (ns ++ (name_bytes s x ∷ [])) ps) ≡ None → (i : ℕ) → i < suc (length ps)
+        → (repeat_in s (ns ++ (name_bytes s x ∷ [])) ps ≡ None → (j : ℕ) → j < length ps → is_among (name_bytes s (get_or ps j 0)) ((ns ++ (name_bytes s x ∷ [])) ++ map (name_bytes s) (take j ps)) ≡ false)
         → is_among (name_bytes s (get_or (x ∷ ps) i 0)) (ns ++ map (name_bytes s) (take i (x ∷ ps))) ≡ false
     go true f g i p h = absurd (let z : ◌≡◌ {A = ℕ} 0 1 = cc in omega arith)
     go false f g zero p h = rw append-nil f
     go false f g (suc i) p h = rw append_assoc at (h g i (omega arith))
 
 -- a name has the number of its text
-pub number_of_name : (s t : List ℕ) (i : ℕ) → repeated_name s ≡ Nowhere → i < name_count s → get_or (names_of s) i [] ≡ t → number_of s t ≡ i
+pub number_of_name : (s t : List ℕ) (i : ℕ) → repeated_name s ≡ None → i < name_count s → get_or (names_of s) i [] ≡ t → number_of s t ≡ i
 unfolding number_of name_count names_of repeated_name index_of
 number_of_name s t i e p q =
     let l = name_places s in

@@ -1,12 +1,11 @@
 -- Document 01, "Module file": the names and the items of a module, by number. Everything is defined on any bytes: a chain of records
 -- stops where no whole record stands.
-use Rattle.std.specs.Prelude.{ℕ, zero, suc, ◌+◌, ◌-◌, ◌≤◌, ◌<◌, ◌^◌, min, ◌≡◌, Bool, true, false, ◌&&◌, ◌||◌, List, [], ◌∷◌, ◌++◌, map, length, take, drop, leb, eqb}
+use Rattle.std.specs.Prelude.{ℕ, zero, suc, ◌+◌, ◌-◌, ◌≤◌, ◌<◌, ◌^◌, min, ◌≡◌, Bool, true, false, ◌&&◌, ◌||◌, List, [], ◌∷◌, ◌++◌, map, length, take, drop, leb, eqb, Some, None}
+use Rattle.std.specs.Prelude as prelude
 use Rattle.std.proofs.Math.Option.{Option, none, some}
 use Rattle.shape.specs.Shape.{pick}
 use Rattle.record_bytes.specs.Bytes.{word_at, head_size, head_end}
 use Rattle.names.specs.declared.BuiltIns.{BuiltIns}
-use Rattle.names.specs.declared.Repeated.{Repeated}
-use Rattle.names.specs.declared.Repeated.TheVariants.{Nowhere, At}
 
 -- a record stands at `at`, whole, in a part that ends at `end`
 unfoldable pub stands : List ℕ → (at end : ℕ) → Bool
@@ -66,18 +65,21 @@ built_ins s =
       string = number_of s (83 ∷ 116 ∷ 114 ∷ 105 ∷ 110 ∷ 103 ∷ []);
     }
 
--- "a name equal to an earlier one": the place of the first
+-- "a name equal to an earlier one": the place of the first, if there is one
+abbrev pub Repeated : Type 0
+Repeated = prelude.Option ℕ
+
 unfoldable pub repeat_in : List ℕ → (earlier : List (List ℕ)) → (places : List ℕ) → Repeated
-repeat_in s ns [] = Nowhere
-repeat_in s ns (p ∷ ps) = pick (is_among (name_bytes s p) ns) (At p) (repeat_in s (ns ++ (name_bytes s p ∷ [])) ps)
+repeat_in s ns [] = None
+repeat_in s ns (p ∷ ps) = pick (is_among (name_bytes s p) ns) (Some p) (repeat_in s (ns ++ (name_bytes s p ∷ [])) ps)
 
 unfoldable pub repeated_name : List ℕ → Repeated
 repeated_name s = repeat_in s [] (name_places s)
 
 -- the number and the place of each case
 unfoldable pub name_refusal : Repeated → Option (ℕ × ℕ)
-name_refusal Nowhere = none
-name_refusal (At p) = some (4, p)
+name_refusal None = none
+name_refusal (Some p) = some (4, p)
 
 -- test 4: the number and the place of the refusal, if there is one
 abbrev pub name_test : List ℕ → Option (ℕ × ℕ)
@@ -94,11 +96,17 @@ item_bytes s at = take (word_at s at) (drop at s)
 unfoldable pub items_of : List ℕ → List (List ℕ)
 items_of s = map (item_bytes s) (item_places s)
 
--- `r` is the place after the record at `at`, or `at` where none stands
-pub record Following (s : List ℕ) (at end r : ℕ) : Type 0 where
-  pub is : r ≡ pick (stands s at end) (at + word_at s at) at
-  pub found : (r ≡ at → ⊥) → (stands s at end ≡ true) × (head_end at ≤ r) × (r ≤ end)
-  pub missing : r ≡ at → stands s at end ≡ false
+-- a whole record stands at `at`, and `next` is the place after it
+pub record Next (s : List ℕ) (at end next : ℕ) : Type 0 where
+  pub whole : stands s at end ≡ true
+  pub is : next ≡ at + word_at s at
+  pub head : head_end at ≤ next
+  pub inside : next ≤ end
+
+-- `r` is the place after the record at `at`, or none if no whole one stands there
+abbrev pub Following : (s : List ℕ) (at end : ℕ) (r : prelude.Option ℕ) → Type 0
+Following s at end None = stands s at end ≡ false
+Following s at end (Some next) = Next s at end next
 
 -- `r` is where the record of the names ends
 pub record NamesEnd (s : List ℕ) (r : ℕ) : Type 0 where

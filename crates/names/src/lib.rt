@@ -7,15 +7,8 @@ ghost use Rattle.names.specs.Names.{Following, NamesEnd, name_bytes, name_count,
 
 use record_bytes::{FIELD_END, HEAD_END, length_at};
 
-// The first name that is equal to an earlier one.
-#[derive(Clone, Copy)]
-pub enum Repeated {
-    Nowhere,
-    At(usize),
-}
-
 // The numbers of the built-in types' names; of one that is no name, the number of names.
-#[derive(Clone, Copy)]
+#[derive(Clone, Copy, Debug, PartialEq, Eq)]
 pub struct BuiltIns {
     pub u16: u32,
     pub i16: u32,
@@ -26,26 +19,23 @@ pub struct BuiltIns {
 // Where the first name stands: behind the heads of the module and of the record of its names.
 pub const FIRST_NAME: usize = 32;
 
-// Where the record at `at` ends, if a whole one stands there in a part that ends at `end`; else `at`.
-pub fn next_place(s: &[u8], at: usize, end: usize) -> usize
+// Where the record at `at` ends, if a whole one stands there in a part that ends at `end`.
+pub fn next_place(s: &[u8], at: usize, end: usize) -> Option<usize>
     requires { end ≤ length s.now }
     ensures { Following s.now at end result }
 {
-    if end < at {
-        return at;
-    }
-    let room = end - at;
+    let room = end.checked_sub(at)?;
     if room < HEAD_END {
-        return at;
+        return None;
     }
     let len = length_at(s, at);
     if len < HEAD_END {
-        return at;
+        return None;
     }
     if room < len {
-        return at;
+        return None;
     }
-    at + len
+    Some(at + len)
 }
 
 // Where the record of the names ends.
@@ -54,10 +44,7 @@ pub fn names_end(s: &[u8]) -> usize
     ensures { NamesEnd s.now result }
 {
     let len = length_at(s, HEAD_END);
-    if s.len() < HEAD_END + len {
-        return s.len();
-    }
-    HEAD_END + len
+    s.len().min(HEAD_END + len)
 }
 
 // How many names a module has.
@@ -68,16 +55,13 @@ pub fn name_count(s: &[u8]) -> u32
         return 0;
     }
     let end = names_end(s);
-    let mut at: usize = FIRST_NAME;
-    let mut count: u32 = 0;
-    loop {
-        let next = next_place(s, at, end);
-        if next == at {
-            return count;
-        }
+    let mut at = FIRST_NAME;
+    let mut count = 0;
+    while let Some(next) = next_place(s, at, end) {
         at = next;
         count += 1;
     }
+    count
 }
 
 // The bytes of the name record from `at` to `stop`.
@@ -94,20 +78,10 @@ pub fn name_at(s: &[u8], at: usize, stop: usize) -> &[u8]
 pub fn same_bytes(a: &[u8], b: &[u8]) -> bool
     ensures { result ≡ same_bytes a.now b.now }
 {
-    if a.len() != b.len() {
-        return false;
-    }
-    let mut i: usize = 0;
-    while i < a.len() {
-        if a[i] != b[i] {
-            return false;
-        }
-        i += 1;
-    }
-    true
+    a == b
 }
 
-// The number of the first name with these bytes, or the number of names.
+// The number of the first name with these bytes, or the number of names: `number_of` promises it so.
 pub fn find_name(s: &[u8], text: &[u8]) -> u32
     ensures { result ≡ number_of s.now text.now }
 {
@@ -115,19 +89,16 @@ pub fn find_name(s: &[u8], text: &[u8]) -> u32
         return 0;
     }
     let end = names_end(s);
-    let mut at: usize = FIRST_NAME;
-    let mut count: u32 = 0;
-    loop {
-        let next = next_place(s, at, end);
-        if next == at {
-            return count;
-        }
+    let mut at = FIRST_NAME;
+    let mut count = 0;
+    while let Some(next) = next_place(s, at, end) {
         if same_bytes(name_at(s, at, next), text) {
             return count;
         }
         at = next;
         count += 1;
     }
+    count
 }
 
 // The numbers of the built-in types' names.

@@ -18,64 +18,53 @@ use Rattle.shape.specs.declared.Due.{Due}
 use Rattle.shape.proofs.ShapeLaws.{and_both, module_kind}
 use Rattle.record_bytes.specs.Bytes.{half_at, word_at}
 use Rattle.names.specs.Names.{name_count, names_end, item_places, chain, stands}
-use Rattle.layout.specs.Layout.{max_bytes, max_depth, kind_at, shape_at, class_at, start_at, stop_at, is_bad, head_at, answer_if, and_then, after_head, list_at, record_at, layout_of}
+use Rattle.layout.specs.Layout.{Layout, Good, good_head, max_bytes, max_depth, kind_at, shape_at, class_at, start_at, stop_at, is_bad, head_at, answer_if, and_then, after_head, list_at, record_at, layout_of}
 use Rattle.node.specs.Fine.{FineRecord, FineList, Opened, FineNode, Enters, node_of}
 use Rattle.node.specs.declared.Node.{Node}
 use Rattle.node.specs.declared.Entered.{Entered}
-use Rattle.layout.specs.declared.Layout.{Layout}
-use Rattle.layout.specs.declared.Layout.TheVariants.{Good, TooLong, Fault, TooDeep}
+use Rattle.layout.specs.declared.LayoutError.{LayoutError}
+use Rattle.layout.specs.declared.LayoutError.TheVariants.{TooLong, Fault}
 use Rattle.layout.specs.declared.Head.{Head}
-use Rattle.layout.specs.declared.Head.TheVariants.{Body, Wrong}
+use Rattle.std.proofs.Common.{Result, Ok, Err}
 use Rattle.layout.proofs.LayoutLaws.{known, head_good, record_step}
 
-pub fault_good : {A : Type 0} {p : ℕ} → Fault p ≡ Good → A
-fault_good e = absurd (let z : ◌≡◌ {A = ℕ} 0 1 = cc in omega arith)
-
-deep_good : {A : Type 0} {p : ℕ} → TooDeep p ≡ Good → A
-deep_good e = absurd (let z : ◌≡◌ {A = ℕ} 0 1 = cc in omega arith)
-
-long_good : {A : Type 0} → TooLong ≡ Good → A
-long_good e = absurd (let z : ◌≡◌ {A = ℕ} 0 1 = cc in omega arith)
+pub bad_good : {A : Type 0} {e : LayoutError} → ◌≡◌ {A = Layout} (Err e) Good → A
+bad_good e = absurd (cc)
 
 pub and_then_good : (l : Layout) (f : Unit {0} → Layout) → and_then l f ≡ Good → (l ≡ Good) × (f tt ≡ Good)
-and_then_good Good f e = (refl, e)
-and_then_good TooLong f e = long_good e
-and_then_good (Fault p) f e = fault_good e
-and_then_good (TooDeep p) f e = deep_good e
+and_then_good (Ok u) f e = (refl, e)
+and_then_good (Err x) f e = bad_good e
 
 -- a record whose layout is good has a level and a head
 pub record Headed (n : ℕ) (s : List ℕ) (d at end : ℕ) (due : Due) : Type 0 where
   pub deep : 1 ≤ d
-  pub start : ℕ
-  pub stop : ℕ
-  pub holds : Holds
-  pub next : Holds
-  pub head : head_at n s at end due ≡ Body start stop holds next
-  pub inner : list_at (record_at n s (d - 1)) s (suc (length s)) start stop holds ≡ Good
+  pub head : Head
+  pub is : head_at n s at end due ≡ Ok head
+  pub inner : list_at (record_at n s (d - 1)) s (suc (length s)) head.start head.stop head.holds ≡ Good
 
 pub headed : (n : ℕ) (s : List ℕ) (d at end : ℕ) (due : Due) → record_at n s d at end due ≡ Good → Headed n s d at end due
 unfolding record_at
-headed n s zero at end due e = deep_good e
+headed n s zero at end due e = bad_good e
 headed n s (suc d) at end due e = go (head_at n s at end due) refl e
   where
-    go : (h : Head) → head_at n s at end due ≡ h → after_head (λ a b x. list_at (record_at n s d) s (suc (length s)) a b x) h ≡ Good → Headed n s (suc d) at end due
-    go (Wrong p) f g = fault_good g
-    go (Body a b h x) f g =
+    go : (h : Result Head LayoutError) → head_at n s at end due ≡ h → after_head (λ a b x. list_at (record_at n s d) s (suc (length s)) a b x) h ≡ Good → Headed n s (suc d) at end due
+    go (Err x) f g = bad_good g
+    go (Ok h) f g =
         let q : d ≡ suc d - 1 = omega arith in
-        record { deep = omega arith; start = a; stop = b; holds = h; next = x; head = f; inner = rw (← q) g }
+        record { deep = omega arith; head = h; is = f; inner = rw (← q) g }
 
 -- the same head, where another class is due too
-head_other : (n : ℕ) (s : List ℕ) (at end : ℕ) (due due' : Due) (a b : ℕ) (h x : Holds) → head_at n s at end due ≡ Body a b h x → may_stand due' (class_at s at) ≡ true
-    → head_at n s at end due' ≡ Body a b h (state_after due' (class_at s at))
-head_other n s at end due due' a b h x e m =
-    let k = known n s at end due a b h x e in
+head_other : (n : ℕ) (s : List ℕ) (at end : ℕ) (due due' : Due) (h : Head) → head_at n s at end due ≡ Ok h → may_stand due' (class_at s at) ≡ true
+    → head_at n s at end due' ≡ Ok (record { start = h.start; stop = h.stop; holds = h.holds; next = state_after due' (class_at s at) })
+head_other n s at end due due' h e m =
+    let k = known n s at end due h e in
     let r = k.room in
     let l = k.long in
     let g = head_good n s at end due' (word_at s at) refl (omega arith) (kind_at s at) (shape_at s at) refl refl r l true (sym m) refl
     (is_bad n s 1 (shape_at s at).fields (shape_at s at).first (at + 16)) refl k.first
     (is_bad n s 2 (shape_at s at).fields (shape_at s at).second (at + 20)) refl (state_after due' (class_at s at)) k.second refl in
-    let q : Body a b h (state_after due' (class_at s at)) ≡ Body (start_at s at) (stop_at s at) (shape_at s at).holds (state_after due' (class_at s at)) =
-    λ i. Body (k.starts i) (k.stops i) (k.inner i) (state_after due' (class_at s at)) in
+    let q : ◌≡◌ {A = Result Head LayoutError} (Ok (record { start = h.start; stop = h.stop; holds = h.holds; next = state_after due' (class_at s at) })) (Ok (good_head s at due')) =
+    λ i. Ok (record { start = k.starts i; stop = k.stops i; holds = k.inner i; next = state_after due' (class_at s at) }) in
     sym g ∙ sym q
 
 -- a record whose layout is good has the class that is due, and its layout is good where only that is due
@@ -86,8 +75,8 @@ own_class n s d at end due e =
     let h = headed n s d at end due e in
     let c = class_at s at in
     let m : may_stand (must_be c Nothing) c ≡ true = simp (eq-eqb c c refl) in
-    let o = head_other n s at end due (must_be c Nothing) h.start h.stop h.holds h.next h.head m in (
-      (known n s at end due h.start h.stop h.holds h.next h.head).class,
+    let o = head_other n s at end due (must_be c Nothing) h.head h.is m in (
+      (known n s at end due h.head h.is).class,
       record_step n s d at end (must_be c Nothing) h.deep ∙ rw o h.inner,
     )
 
@@ -103,7 +92,7 @@ pub opened : (s : List ℕ) (d at end c : ℕ) → FineRecord s d at end c → O
 opened s d at end c f =
     let n = name_count s in
     let h = headed n s d at end (must_be c Nothing) f.ok in
-    let k = known n s at end (must_be c Nothing) h.start h.stop h.holds h.next h.head in
+    let k = known n s at end (must_be c Nothing) h.head h.is in
     let p = f.part in
     let r = k.room in
     let l = k.long in
@@ -188,9 +177,9 @@ pub split : (s : List ℕ) (d at end : ℕ) (st : Holds) (due : Due) → due_in 
 unfolding list_at
 split s d at end st due ed es l = fuelled l.fuel l.ok
   where
-    go : (m : ℕ) (u : Bool) → answer_if u (Fault at) (λ _. and_then (record_at (name_count s) s d at end due) (λ _. list_at (record_at (name_count s) s d) s m (stop_at s at) end (state_after due (shape_at s at).class))) ≡ Good
+    go : (m : ℕ) (u : Bool) → answer_if u (Err (Fault at)) (λ _. and_then (record_at (name_count s) s d at end due) (λ _. list_at (record_at (name_count s) s d) s m (stop_at s at) end (state_after due (shape_at s at).class))) ≡ Good
         → Split s d at end due
-    go m true e = fault_good e
+    go m true e = bad_good e
     go m false e =
         let q = and_then_good (record_at (name_count s) s d at end due) (λ _. list_at (record_at (name_count s) s d) s m (stop_at s at) end (state_after due (shape_at s at).class)) e in
         let o = own_class (name_count s) s d at end due q.0 in
@@ -199,7 +188,7 @@ split s d at end st due ed es l = fuelled l.fuel l.ok
         record { stands = o.0; first = f; rest = record { part = record { starts = p.room; ends = l.part.ends; few = l.part.few }; fuel = m; ok = q.1 } }
 
     fuelled : (m : ℕ) → list_at (record_at (name_count s) s d) s m at end st ≡ Good → Split s d at end due
-    fuelled zero e = fault_good e
+    fuelled zero e = bad_good e
     fuelled (suc m) e = go m (eqb due.class 0) (simp (ed, es) at e)
 
 -- where a record of one class is due: it has that class, and the state after it is known
@@ -248,12 +237,12 @@ pub ended : (s : List ℕ) (d at end : ℕ) (st : Holds) → due_in st ≡ nothi
 unfolding list_at is_done
 ended s d at end st e l = fuelled l.fuel l.ok
   where
-    go : (b : Bool) → eqb at end ≡ b → answer_if b Good (λ _. Fault at) ≡ Good → at ≡ end
+    go : (b : Bool) → eqb at end ≡ b → answer_if b Good (λ _. Err (Fault at)) ≡ Good → at ≡ end
     go true f g = eqb-true at end f
-    go false f g = fault_good g
+    go false f g = bad_good g
 
     fuelled : (m : ℕ) → list_at (record_at (name_count s) s d) s m at end st ≡ Good → at ≡ end
-    fuelled zero q = fault_good q
+    fuelled zero q = bad_good q
     fuelled (suc m) q = go (eqb at end) refl (simp e at q)
 
 -- a record with no fault is one of a chain
@@ -286,10 +275,10 @@ unfolding layout_of
 module_list s m = go (eqb (length s) 0) refl (ltb max_bytes (length s)) refl m.layout
   where
     go : (b : Bool) → eqb (length s) 0 ≡ b → (c : Bool) → ltb max_bytes (length s) ≡ c
-        → answer_if b Good (λ _. answer_if c TooLong (λ _. list_at (record_at (name_count s) s max_depth) s (suc (length s)) 0 (length s) OneModule)) ≡ Good
+        → answer_if b Good (λ _. answer_if c (Err TooLong) (λ _. list_at (record_at (name_count s) s max_depth) s (suc (length s)) 0 (length s) OneModule)) ≡ Good
         → FineList s max_depth 0 (length s) OneModule
     go true e c f g = absurd (omega (arith, m.some, eqb-true (length s) 0 e))
-    go false e true f g = long_good g
+    go false e true f g = bad_good g
     go false e false f g = record { part = record { starts = omega arith; ends = omega arith; few = ltb-false max_bytes (length s) f }; fuel = suc (length s); ok = g }
 
 pub module_parts : (s : List ℕ) → ModuleRecord s → ModuleParts s

@@ -1,4 +1,3 @@
-pub mod SlotLaws
 pub mod BufferLaws
 pub mod DigitLaws
 pub mod InputLaws

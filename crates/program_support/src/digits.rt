@@ -9,21 +9,8 @@ pub fn decimal(n: u64, out: &mut [u8; 20]) -> usize
     ensures digits { take result out.new ≡ last_digits 10 result n }
     ensures rest { drop result out.new ≡ drop result out.old }
 {
-    let k = digit_count(n);
+    let k = n.max(1).ilog10() as usize + 1;
     write_digits(n, k, out);
-    k
-}
-
-// How many digits n takes.
-fn digit_count(n: u64) -> usize
-    ensures { IsDigitCount 10 1 n result }
-{
-    let mut k = 1;
-    let mut rest = n / 10;
-    while rest > 0 {
-        rest /= 10;
-        k += 1;
-    }
     k
 }
 
@@ -33,10 +20,8 @@ fn write_digits(n: u64, k: usize, out: &mut [u8])
     ensures digits { take k out.new ≡ last_digits 10 k n }
     ensures rest { drop k out.new ≡ drop k out.old }
 {
-    let mut i = k;
     let mut rest = n;
-    while i > 0 {
-        i -= 1;
+    for i in (0..k).rev() {
         out[i] = b'0' + (rest % 10) as u8;
         rest /= 10;
     }

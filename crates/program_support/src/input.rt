@@ -12,6 +12,7 @@ pub fn read_full<R: Read>(input: &mut R, buffer: &mut [u8]) -> io::Result<usize>
     ensures bytes { IfOk result (λ n. ReadFull (R.remaining input.old) (R.remaining input.new) n buffer.new) }
     ensures err { OnErr result (ReadSome (R.remaining input.old) (R.remaining input.new) buffer.new) }
 {
+    // `read_exact` and `read_to_end` do not say what stands in the buffer when a read fails.
     let mut done = 0;
     while done < buffer.len() {
         let n = input.read(&mut buffer[done..])?;

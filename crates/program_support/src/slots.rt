@@ -1,27 +1,24 @@
 // The records of a module in byte order, and their slots. What the module's layout promises is tested here, not asked
 // for.
-ghost use Rattle.std.specs.Prelude.{◌<◌, length};
+ghost use Rattle.std.specs.Prelude.{◌+◌, ◌<◌, ◌≤◌, length, unwrap_or, IfSome};
 ghost use Rattle.program_support.specs.Slots.{SlotPlace, NextRecord};
 
 use record_bytes::{FIELD, FIELD_END, HEAD_END, KIND, half, length_at};
 use shape::{Rule, due_in, shape_of};
 
-// Where the slot of the record at `at` is. Where it has none (only types and expressions do) that is the end, with no
-// room for a field.
-pub fn slot_place(s: &[u8], at: usize) -> usize
-    ensures { SlotPlace s.now at result }
+// Where the slot of the record at `at` is, with room for a field; only types and expressions have one.
+pub fn slot_place(s: &[u8], at: usize) -> Option<usize>
+    ensures value { SlotPlace s.now at (unwrap_or result (length s.now)) }
+    ensures room { IfSome result (λ place. place + 4 ≤ length s.now) }
 {
-    if s.len() < at {
-        return s.len();
-    }
-    if s.len() - at < FIELD_END {
-        return s.len();
+    if s.len() < at || s.len() - at < FIELD_END {
+        return None;
     }
     let shape = shape_of(half(s, at + KIND));
     let first = shape.first;
     match first {
-        Rule::Slot => at + HEAD_END,
-        _ => s.len(),
+        Rule::Slot => Some(at + HEAD_END),
+        _ => None,
     }
 }
 
@@ -43,9 +40,7 @@ pub fn next_record(s: &[u8], at: usize) -> usize
     if len < start {
         return s.len();
     }
-    let holds = shape.holds;
-    let due = due_in(holds);
-    if due.free {
+    if due_in(shape.holds).free {
         return at + len;
     }
     at + start

@@ -1,30 +1,23 @@
 -- The three entries and their refusals (document 01, "Why a module is turned back", test 8).
-use Rattle.std.specs.Prelude.{ℕ, ◌≡◌, Bool, List}
+use Rattle.std.specs.Prelude.{ℕ, ◌≡◌, Bool, List, Result}
 use Rattle.fallible.specs.Outcome.{Outcome, refused, accepted}
 use Rattle.types.specs.Table.{unfolded}
 use Rattle.relations.specs.TypeRows.{OneType, TwoTypes}
 use Rattle.relations.specs.WordSize.{word_size_of}
 use Rattle.relations.specs.declared.WordSize.{WordSize}
 use Rattle.queries.specs.declared.CastSearch.{CastSearch}
-use Rattle.queries.specs.declared.Answer.{Answer}
-use Rattle.queries.specs.declared.Answer.TheVariants.{Is, Refused}
-use Rattle.queries.specs.declared.CastAnswer.{CastAnswer}
-use Rattle.queries.specs.declared.CastAnswer.TheVariants.{Searched, Refused as NotSearched}
-use Rattle.queries.specs.declared.Measured.{Measured}
-use Rattle.queries.specs.declared.Measured.TheVariants.{Size, Refused as NotMeasured}
+use Rattle.refusal.specs.declared.Refusal.{Refusal}
+use Rattle.refusal.specs.Refusal.{outcome_of}
 
 -- The number of the refusal and its place, or the value, of each case of the answers
-abbrev pub answered_of : Answer → Outcome Bool
-answered_of (Is b) = accepted b
-answered_of Refused = refused 8 0
+abbrev pub answered_of : Result Bool Refusal → Outcome Bool
+answered_of answer = outcome_of answer
 
-abbrev pub searched_of : CastAnswer → Outcome CastSearch
-searched_of (Searched found) = accepted found
-searched_of NotSearched = refused 8 0
+abbrev pub searched_of : Result CastSearch Refusal → Outcome CastSearch
+searched_of answer = outcome_of answer
 
-abbrev pub measured_of : Measured → Outcome WordSize
-measured_of (Size s) = accepted s
-measured_of NotMeasured = refused 8 0
+abbrev pub measured_of : Result WordSize Refusal → Outcome WordSize
+measured_of answer = outcome_of answer
 
 -- Accepted exactly if the rows obey the rules and both numbers are type rows, with this value; else refused with 8 at place 0
 abbrev pub Answers : {A : Type 0} → (w : List ℕ) (count m n : ℕ) (value : A) → Outcome A → Type 0

@@ -9,54 +9,28 @@ ghost use Rattle.relations.specs.TypeRows.{OneType, TwoTypes};
 ghost use Rattle.queries.specs.CastSearch.{searched, cast_search};
 ghost use Rattle.queries.specs.Entry.{Answers, Measures, answered_of, searched_of, measured_of};
 
+use refusal::Refusal;
 use relations::{WordSize, cast_fits, types_are_assignable, word_size};
 
 // What the search of a cast finds: whether a pair fits, and how many were tried, the one that fits included.
-#[derive(Clone, Copy)]
+#[derive(Clone, Copy, Debug, PartialEq, Eq)]
 pub struct CastSearch {
     pub fits: bool,
     pub pairs: u64,
-}
-
-// What `assignable` answers.
-#[derive(Clone, Copy)]
-pub enum Answer {
-    Is(bool),
-    Refused,
-}
-
-// What `castable` answers.
-#[derive(Clone, Copy)]
-pub enum CastAnswer {
-    Searched(CastSearch),
-    Refused,
-}
-
-// What `words` answers.
-#[derive(Clone, Copy)]
-pub enum Measured {
-    Size(WordSize),
-    Refused,
 }
 
 // Whether the rows obey the rules, and n is a type row.
 fn one_type(rows: &[u32], count: u32, n: u32) -> bool
     ensures { Decides (OneType rows.now count n) result }
 {
-    if !validate_rows::is_table(rows, count) {
-        return false;
-    }
-    validate_rows::is_type(rows, count, n)
+    validate_rows::is_table(rows, count) && validate_rows::is_type(rows, count, n)
 }
 
 // Whether the rows obey the rules, and both m and n are type rows.
 fn two_types(rows: &[u32], count: u32, m: u32, n: u32) -> bool
     ensures { Decides (TwoTypes rows.now count m n) result }
 {
-    if !one_type(rows, count, m) {
-        return false;
-    }
-    validate_rows::is_type(rows, count, n)
+    one_type(rows, count, m) && validate_rows::is_type(rows, count, n)
 }
 
 // The search over the strips of target, each with source as it stands.
@@ -100,33 +74,33 @@ fn search_cast(rows: &[u32], count: u32, source: u32, target: u32) -> CastSearch
 }
 
 // Whether the type of row source may be assigned to that of row target.
-pub fn assignable(rows: &[u32], count: u32, target: u32, source: u32) -> Answer
+pub fn assignable(rows: &[u32], count: u32, target: u32, source: u32) -> Result<bool, Refusal>
     ensures { Answers rows.now count target source
         (types_are_assignable (unfolded rows.now target) (unfolded rows.now source)) (answered_of result) }
 {
     if !two_types(rows, count, target, source) {
-        return Answer::Refused;
+        return Err(Refusal::UnsoundLoan);
     }
-    Answer::Is(types_are_assignable(rows, count, target, source))
+    Ok(types_are_assignable(rows, count, target, source))
 }
 
 // Whether the type of row source may be cast to that of row target, and how many pairs were tried to find out.
-pub fn castable(rows: &[u32], count: u32, source: u32, target: u32) -> CastAnswer
+pub fn castable(rows: &[u32], count: u32, source: u32, target: u32) -> Result<CastSearch, Refusal>
     ensures { Answers rows.now count source target
         (cast_search (unfolded rows.now source) (unfolded rows.now target)) (searched_of result) }
 {
     if !two_types(rows, count, source, target) {
-        return CastAnswer::Refused;
+        return Err(Refusal::UnsoundLoan);
     }
-    CastAnswer::Searched(search_cast(rows, count, source, target))
+    Ok(search_cast(rows, count, source, target))
 }
 
 // How many words the type of row n has.
-pub fn words(rows: &[u32], count: u32, n: u32) -> Measured
+pub fn words(rows: &[u32], count: u32, n: u32) -> Result<WordSize, Refusal>
     ensures { Measures rows.now count n (measured_of result) }
 {
     if !one_type(rows, count, n) {
-        return Measured::Refused;
+        return Err(Refusal::UnsoundLoan);
     }
-    Measured::Size(word_size(rows, count, n))
+    Ok(word_size(rows, count, n))
 }

@@ -19,10 +19,9 @@ use Rattle.shape.specs.declared.Holds.TheVariants.{Nothing, OneModule}
 use Rattle.shape.proofs.ShapeLaws.{module_kind}
 use Rattle.record_bytes.specs.Bytes.{head_end, field_size}
 use Rattle.names.specs.Names.{names_end}
-use Rattle.layout.specs.Layout.{max_depth, kind_at, stop_at, layout_of}
+use Rattle.layout.specs.Layout.{Good, max_depth, kind_at, stop_at, layout_of}
 use Rattle.trees.specs.Tree.{Item}
 use Rattle.trees.specs.Record.{Records, no_records, record_then, go_on, holds_free_bytes, records_at}
-use Rattle.layout.specs.declared.Layout.TheVariants.{Good}
 use Rattle.node.proofs.Open.{ModuleRecord, empty_or_record, module_list, module_parts, names_room, names_end_none, split_must, opened}
 use Rattle.trees.proofs.Decode.{records_cons, records_end}
 use Rattle.meaning.specs.TypeError.{TypeError, plain, row}

@@ -1,9 +1,8 @@
 -- A module with a literal out of range: its error has the place of the literal in the file, and can be read.
 use Rattle.std.specs.Prelude.{ℕ, ◌≡◌, List, [], ◌∷◌, ◌++◌}
 use Rattle.trees.specs.Example.{head, word}
-use Rattle.layout.specs.Layout.{layout_of}
+use Rattle.layout.specs.Layout.{Good, layout_of}
 use Rattle.trees.specs.Tree.{location}
-use Rattle.layout.specs.declared.Layout.TheVariants.{Good}
 use Rattle.meaning.specs.TypeError.{literal_out_of_range}
 use Rattle.meaning.specs.Context.{All}
 use Rattle.meaning.specs.Promise.{placed_errors_of}

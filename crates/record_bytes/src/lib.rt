@@ -36,7 +36,7 @@ pub fn half(s: &[u8], at: usize) -> u32
     requires { at + 2 ≤ length s.now }
     ensures { Read (half_at s.now at) 16 result }
 {
-    byte(s, at) + byte(s, at + 1) * 256
+    u16::from_le_bytes([s[at], s[at + 1]]) as u32
 }
 
 // The four bytes at `at`.
@@ -44,7 +44,7 @@ pub fn word(s: &[u8], at: usize) -> u32
     requires { at + 4 ≤ length s.now }
     ensures { Read (word_at s.now at) 32 result }
 {
-    half(s, at) + half(s, at + 2) * 65536
+    u32::from_le_bytes([s[at], s[at + 1], s[at + 2], s[at + 3]])
 }
 
 // The four bytes at `at`, as a length.

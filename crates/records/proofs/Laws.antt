@@ -4,7 +4,7 @@ use mathlib.Core.Path.{◌≡◌, refl, sym, ◌∙◌, ap}
 use mathlib.Core.List.{List, [], ◌∷◌, ◌++◌, append-nil}
 use native.Mathlib.Omega.{arith}
 use native.Mathlib.Nat.{not-suc-le-zero, le_of_suc-le-suc}
-use lib.ListN.{length, get_or, set, take, drop, replicate, length-append, length-drop, get_or-replicate}
+use lib.ListN.{length, get_or, set, take, drop, replicate, get_or-replicate}
 use lib.Seq.{drop-length, get_or-take}
 use Rattle.fallible.specs.Errors.{error_width, error_of, error_word, error_at, errors_from}
 use Rattle.fallible.specs.declared.Error.{Error}
@@ -45,12 +45,6 @@ unfolding errors_from
 errors_long words number zero = refl
 errors_long words number (suc many) = ap suc (errors_long words (number + 1) many)
 
-pub records_long : (words : List ℕ) (count : ℕ) (records : List Error) → count ≤ length records → length (records_from words count records) ≡ length records
-records_long words count records p =
-    let a = errors_long words 0 count in
-    let b = length-drop count records in
-    length-append (errors_from words 0 count) (drop count records) ∙ omega arith
-
 pub records_none : (words : List ℕ) (records : List Error) → records_from words 0 records ≡ records
 unfolding errors_from
 records_none words records = refl
@@ -68,11 +62,12 @@ next_record words number (suc count) (r ∷ records) p =
     ap (λ (k : ℕ). error_at words number ∷ set (errors_from words (number + 1) count ++ drop count records) count (error_at words k)) e
     ∙ ap (λ (l : List Error). error_at words number ∷ l) (next_record words (number + 1) count records (le_of_suc-le-suc p))
 
-pub records_more : (words : List ℕ) (count : ℕ) (records : List Error) → count < length records
-    → set (records_from words count records) count (error_at words count) ≡ records_from words (suc count) records
-records_more words count records p =
-    let e : 0 + count ≡ count = omega arith in
-    ap (λ (k : ℕ). set (records_from words count records) count (error_at words k)) (sym e) ∙ next_record words 0 count records p
+pub records_more : (words : List ℕ) (count : ℕ) (records filled : List Error) (e : Error) → count < length records → filled ≡ records_from words count records → e ≡ error_at words count
+    → set filled count e ≡ records_from words (count + 1) records
+records_more words count records filled e p f is =
+    let z : 0 + count ≡ count = omega arith in
+    let n : suc count ≡ count + 1 = omega arith in
+    (λ i. set (f i) count ((is ∙ ap (error_at words) (sym z)) i)) ∙ next_record words 0 count records p ∙ ap (λ (k : ℕ). records_from words k records) n
 
 -- Errors of words that are enough for them.
 pub errors_of_front : (words : List ℕ) (front number many : ℕ) → error_width * (number + many) ≤ front → errors_from (take front words) number many ≡ errors_from words number many

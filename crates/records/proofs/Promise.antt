@@ -1,5 +1,5 @@
 -- What the check of the words says of the records. Assumes nothing.
-use Prim.Native.Nat.{ℕ, ◌*◌, ◌/◌, ◌≤◌, ◌<◌}
+use Prim.Native.Nat.{ℕ, ◌*◌, ◌≤◌, ◌<◌}
 use mathlib.Core.Path.{◌≡◌, refl, sym, ◌∙◌, ap, subst}
 use mathlib.Core.Bool.{Bool, true, false, cond}
 use mathlib.Core.List.{List, [], ◌∷◌, ◌++◌, map}
@@ -7,33 +7,25 @@ use mathlib.Core.Option.{Option, none, some}
 use native.Mathlib.Omega.{arith}
 use lib.Dec.{leb, ltb}
 use lib.ListN.{length, take, drop, replicate, length-replicate}
-use lib.Seq.{length-take-le, take_at, drop_at}
-use borrow.Author.Tests.{le-leb, lt-leb, leb-true, leb-false, ltb-false}
+use lib.Seq.{length-take-le, take_at}
+use borrow.Author.Tests.{leb-true, leb-false, ltb-false}
 use Rattle.types.specs.Table.{row_width}
 use Rattle.fallible.specs.Outcome.{Outcome, refused, accepted, or_next, first_refusing, outcome_after}
 use Rattle.fallible.specs.Errors.{error_width, errors_from}
 use Rattle.fallible.specs.declared.Error.{Error}
 use Rattle.layout.specs.Layout.{layout_of, layout_refusal}
 use Rattle.names.specs.Names.{repeated_name, name_refusal}
-use Rattle.meaning.specs.Promise.{Counts, Buffers, Lengths, lengths_of, counts_of, refuse_if, answer_of, unfold_error, placed_errors_of, Checked}
+use Rattle.meaning.specs.Promise.{Counts, Buffers, Lengths, lengths_of, counts_of, refuse_if, answer_of, unfold_error, placed_errors_of}
 use Rattle.meaning.proofs.Cleared.{cleared_all}
-use Rattle.type_check.specs.declared.Answer.{Answer}
-use Rattle.type_check.specs.declared.Answer.TheVariants.{Accepted, Refused}
-use Rattle.module_tests.specs.Refusal.{refusal_of, module_refusal}
-use Rattle.module_tests.specs.declared.Refusal.{Refusal}
-use Rattle.module_tests.specs.declared.Refusal.TheVariants.{Never, Because}
-use Rattle.type_check.specs.Post.{buffers, outcome_of, loan_refusal}
+use Rattle.type_check.specs.declared.Counts.{Counts as Counted}
+use Rattle.module_tests.specs.Refusal.{module_refusal}
+use Rattle.refusal.specs.declared.Refusal.{Refusal}
+use Rattle.std.specs.Prelude.{Result, Ok}
+use Rattle.type_check.specs.Post.{outcome_of, loan_refusal}
 use Rattle.type_check.proofs.Outcomes.{accepted_counts, refused_never}
 use Rattle.type_check.proofs.Promise.{Low as LowRefusal, low_module}
-use Rattle.records.specs.Records.{too_few_words, words_for, CheckedWords, records_from, zero_record, record_count, records_after, CheckedRecords}
+use Rattle.records.specs.Records.{words_for, CheckedWords, records_from, zero_record, record_count, records_after, CheckedRecords}
 use Rattle.records.proofs.Laws.{errors_long, records_none, records_all, errors_of_front, errors_of_zeros}
-
--- ---- how many records are filled, where the module is turned back
-pub none_filled : {answer : Answer} {number place : ℕ} (lent : ℕ) → answer ≡ Refused number place → number ≤ 5 → 0 ≡ record_count (outcome_of answer) lent
-none_filled {answer} {number} {place} lent e p = ap (λ (b : Bool). cond b 0 lent) (sym (le-leb number 5 p)) ∙ ap (λ (a : Answer). record_count (outcome_of a) lent) (sym e)
-
-pub all_filled : {answer : Answer} {number place : ℕ} (lent : ℕ) → answer ≡ Refused number place → 5 < number → lent ≡ record_count (outcome_of answer) lent
-all_filled {answer} {number} {place} lent e p = ap (λ (b : Bool). cond b 0 lent) (sym (lt-leb number 5 p)) ∙ ap (λ (a : Answer). record_count (outcome_of a) lent) (sym e)
 
 -- ---- too few words
 abbrev Low : Outcome Counts → Type 0
@@ -44,36 +36,6 @@ Low (accepted counts) = ⊥
 too_few_low : (t : Option (ℕ × ℕ)) → LowRefusal t → Low (outcome_after t (refused 5 0))
 too_few_low none p = omega arith
 too_few_low (some r) p = p
-
-module _ (input : List ℕ) {r : Refusal} (e : refusal_of r ≡ module_refusal input) where
-  after : {y : Refusal} → r ≡ y → outcome_after (refusal_of y) (refused 5 0) ≡ too_few_words input
-  after q = ap (λ (x : Option (ℕ × ℕ)). outcome_after x (refused 5 0)) (ap refusal_of (sym q) ∙ e)
-
-  pub five : r ≡ Never → refused 5 0 ≡ too_few_words input
-  five q = after q
-
-  pub earlier : {number place : ℕ} → r ≡ Because number place → refused number place ≡ too_few_words input
-  earlier q = after q
-
--- ---- the words
-pub words_short : {input output rows words work : List ℕ} {answer : Outcome Counts} (records : ℕ) → length words / error_width < records → answer ≡ too_few_words input
-    → CheckedWords input records (buffers output rows words work) (buffers output rows words work) answer
-words_short records p e = record { short = λ q. (e, refl); checked = λ q. absurd (omega arith); past = refl }
-
-pub words_checked : {input output rows work output' rows' part work' : List ℕ} {answer : Outcome Counts} (words : List ℕ) (records : ℕ) → records ≤ length words / error_width
-    → Checked input (buffers output rows (take (error_width * records) words) work) (buffers output' rows' part work') answer
-    → CheckedWords input records (buffers output rows words work) (buffers output' rows' (part ++ drop (error_width * records) words) work') answer
-words_checked {input} {output} {rows} {work} {output'} {rows'} {part} {work'} {answer} words records p c =
-    let room : error_width * records ≤ length words = omega arith in
-    let long : length part ≡ error_width * records = ap (λ (l : Lengths). l.errors) c.lengths ∙ length-take-le (error_width * records) words room in
-    record {
-      short = λ q. absurd (omega arith);
-      checked =
-          λ q.
-          subst (λ (l : List ℕ). Checked input (buffers output rows (take (error_width * records) words) work) (buffers output' rows' l work') answer)
-          (sym (take_at part (drop (error_width * records) words) (error_width * records) long)) c;
-      past = drop_at part (drop (error_width * records) words) (error_width * records) long;
-    }
 
 -- ---- accepted: no test refused
 accepted_rest : (t u : Option (ℕ × ℕ)) (counts all : Counts) → accepted counts ≡ outcome_after (or_next t u) (accepted all) → accepted counts ≡ outcome_after u (accepted all)
@@ -172,11 +134,11 @@ module _ (input : List ℕ) (before after : Buffers) (records : List Error) wher
   records_checked answer c e = record { words = c; filled = e ∙ filled answer c }
 
 -- A list of n records has all errors of an accepted module.
-pub errors_fit : {input : List ℕ} {before after : Buffers} {n : ℕ} {records' : List Error} {answer : Answer} {rows errors : ℕ}
-    → CheckedRecords input before after (replicate n zero_record) records' (outcome_of answer) → answer ≡ Accepted rows errors → errors ≤ n
-errors_fit {input} {before} {after} {n} {records'} {answer} {rows} {errors} c e =
+pub errors_fit : {input : List ℕ} {before after : Buffers} {n : ℕ} {records' : List Error} {answer : Result Counted Refusal} {counts : Counted}
+    → CheckedRecords input before after (replicate n zero_record) records' (outcome_of answer) → answer ≡ Ok counts → counts.errors ≤ n
+errors_fit {input} {before} {after} {n} {records'} {answer} {counts} c e =
     let records = replicate n zero_record in
-    let p = (no_more input before after records (subst (λ (a : Answer). CheckedWords input (length records) before after (outcome_of a)) e c.words)).1 in
+    let p = (no_more input before after records (subst (λ (a : Result Counted Refusal). CheckedWords input (length records) before after (outcome_of a)) e c.words)).1 in
     let l : length records ≡ n = length-replicate n zero_record in
     omega (arith, p, l)
 

@@ -8,8 +8,9 @@ ghost use Rattle.type_check.specs.Post.{buffers_before, buffers_after, outcome_o
 ghost use Rattle.records.specs.Records.{records_from, record_count, too_few_words, CheckedWords, CheckedRecords};
 
 use fallible::{ERROR_WIDTH, Error};
-use module_tests::{Refusal, module_refusal};
-use type_check::{Answer, type_check_module};
+use module_tests::module_refusal;
+use refusal::Refusal;
+use type_check::{Counts, type_check_module};
 
 // The error at a number, from 0, by its words.
 fn error_at(words: &[u32], number: usize) -> Error
@@ -34,25 +35,17 @@ fn fill_records(records: &mut [Error], words: &[u32], count: usize)
     requires { (count ≤ length records.old) × (error_width * count ≤ length words.now) }
     ensures { records.new ≡ records_from words.now count records.old }
 {
-    let mut i: usize = 0;
-    while i < count {
+    for i in 0..count {
         records[i] = error_at(words, i);
-        i += 1;
     }
 }
 
 // The answer where fewer words are lent than the records ask for: tests 1 to 4, then 5.
-fn too_few_words(input: &[u8]) -> Answer
+fn too_few_words(input: &[u8]) -> Result<Counts, Refusal>
     ensures { outcome_of result ≡ too_few_words input.now }
 {
-    let refusal = module_refusal(input);
-    match refusal {
-        Refusal::Never => Answer::Refused {
-            number: 5,
-            place: 0,
-        },
-        Refusal::Because { number, place } => Answer::Refused { number, place },
-    }
+    module_refusal(input)?;
+    Err(Refusal::ShortLoan)
 }
 
 // `type_check_module` with eight words for each of so many records, and no more.
@@ -63,7 +56,7 @@ fn check_words(
     words: &mut [u32],
     records: usize,
     work: &mut [u32],
-) -> Answer
+) -> Result<Counts, Refusal>
     ensures { CheckedWords input.now records
         (buffers_before output rows words work)
         (buffers_after output rows words work) (outcome_of result) }
@@ -76,12 +69,19 @@ fn check_words(
 }
 
 // How many of the records lent are filled from the words: after 6 and 7, which leave all words 0, every one.
-fn record_count(answer: Answer, lent: usize) -> usize
+fn record_count(answer: Result<Counts, Refusal>, lent: usize) -> usize
     ensures { result ≡ record_count (outcome_of answer) lent }
 {
     match answer {
-        Answer::Accepted { rows: _, errors } => errors,
-        Answer::Refused { number, place: _ } => if number <= 5 { 0 } else { lent },
+        Ok(counts) => counts.errors,
+        Err(
+            Refusal::TooLong
+            | Refusal::BadLayout(_)
+            | Refusal::TooDeep(_)
+            | Refusal::RepeatedName(_)
+            | Refusal::ShortLoan,
+        ) => 0,
+        Err(_) => lent,
     }
 }
 
@@ -93,7 +93,7 @@ pub fn type_check_module_records(
     words: &mut [u32],
     records: &mut [Error],
     work: &mut [u32],
-) -> Answer
+) -> Result<Counts, Refusal>
     ensures { CheckedRecords input.now
         (buffers_before output rows words work)
         (buffers_after output rows words work) records.old records.new (outcome_of result) }

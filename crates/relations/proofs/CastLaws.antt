@@ -80,9 +80,6 @@ same_rows w c i j two = go (eqb i j) refl
 
 -- A pair that does not fit by its kinds, by the rows that its two types desugar to
 module _ (w : List ℕ) (count : ℕ) (table : Table w count) (source target j k : ℕ) (j-is : j ≡ kind_of (unfolded w source)) (k-is : k ≡ kind_of (unfolded w target)) (b : Bool) (tested : b ≡ cast_kinds j k) where
-  pub fits_by_kind : b ≡ true → true ≡ cast_fits (pair (unfolded w source) (unfolded w target))
-  fits_by_kind hit = rw (← j-is, ← k-is, ← tested, hit)
-
   pub fits_desugared : b ≡ false → (from to : ℕ) → TypePart w count (source + 1) (desugar (unfolded w source)) from → TypePart w count (target + 1) (desugar (unfolded w target)) to
       → eqb from to ≡ cast_fits (pair (unfolded w source) (unfolded w target))
   fits_desugared miss from to s t =

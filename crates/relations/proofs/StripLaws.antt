@@ -6,7 +6,7 @@ use mathlib.Core.List.{List}
 use mathlib.Core.Bool.{Bool, true, false, cond, ◌&&◌, ◌||◌, or-false, and-false, false≢true}
 use mathlib.Core.Logic.{◌⊎◌, inl, inr, ⊎_elim}
 use native.Mathlib.Omega.{arith}
-use borrow.Author.Tests.{eq-eqb, ne_eqb, eqb-true, eqb-false}
+use borrow.Author.Tests.{eq-eqb, eqb-true, eqb-false}
 use lib.Dec.{eqb}
 use Rattle.types.specs.Ty.{Ty, end, node, is, kind_of, first_of, same, member, desugar, strip_to, distinct_kind}
 use Rattle.types.specs.Table.{unfolded}
@@ -164,10 +164,6 @@ strip_member u (node k a b z n) e = go (strip_member u a e) (eqb k distinct_kind
 
 module _ (w : List ℕ) (count n top : ℕ) (two : TwoTypes w count n top) (wanted : ℕ) (part : TypePart w count (n + 1) (desugar (unfolded w n)) wanted)
     (k : ℕ) (k-is : k ≡ kind_of (unfolded w wanted)) where
-  pub not_distinct : (k ≡ distinct_kind → ⊥) → false ≡ is_strip_of (unfolded w n) (unfolded w top)
-  not_distinct other =
-      sym (ap (λ (u : Ty). is distinct_kind u && member u (strips (unfolded w top))) (sym part.type) ∙ rw (← k-is, ne_eqb k distinct_kind other))
-
   pub strip_reached : k ≡ distinct_kind → (r : ℕ) → TypePart w count (top + 1) (strip_to (unfolded w wanted) (unfolded w top)) r
       → eqb r wanted ≡ is_strip_of (unfolded w n) (unfolded w top)
   strip_reached distinct r reached =

@@ -17,8 +17,8 @@ const LARGEST: u32 = 65535;
 // A number that no row has.
 const NO_ROW: u32 = 0;
 
-// How many words a type has.
-#[derive(Clone, Copy)]
+// How many words a type has. The two others are answers too and no errors, which a caller is told as words (`as_word`).
+#[derive(Clone, Copy, PartialEq, Eq)]
 pub enum WordSize {
     Words(u32),
     TooLarge,
@@ -60,29 +60,17 @@ pub fn types_are_assignable(rows: &[u32], count: u32, target: u32, source: u32) 
 pub fn is_integral(kind: u32) -> bool
     ensures { result ≡ is_integral_kind kind }
 {
-    if kind == types::U16 {
-        return true;
-    }
-    kind == types::I16
+    kind == types::U16 || kind == types::I16
 }
 
 // Whether a cast turns types of these two kinds into each other.
 fn cast_kinds(source: u32, target: u32) -> bool
     ensures { result ≡ cast_kinds source target }
 {
-    if source == types::POINTER {
-        if target == types::POINTER {
-            return true;
-        }
-        return target == types::U16;
+    match (source, target) {
+        (types::POINTER, types::POINTER | types::U16) | (types::U16, types::POINTER) => true,
+        _ => is_integral(source) && is_integral(target),
     }
-    if target == types::POINTER {
-        return source == types::U16;
-    }
-    if !is_integral(source) {
-        return false;
-    }
-    is_integral(target)
 }
 
 // Whether a pair fits as it stands.
@@ -90,15 +78,10 @@ pub fn cast_fits(rows: &[u32], count: u32, source: u32, target: u32) -> bool
     requires { TwoTypes rows.now count source target }
     ensures { result ≡ cast_fits (pair (unfolded rows.now source) (unfolded rows.now target)) }
 {
-    if cast_kinds(
-        types::kind(rows, count, source),
-        types::kind(rows, count, target),
-    ) {
-        return true;
-    }
-    let from = types::desugar(rows, count, source);
-    let to = types::desugar(rows, count, target);
-    from == to
+    let from = types::kind(rows, count, source);
+    let to = types::kind(rows, count, target);
+    cast_kinds(from, to)
+        || types::desugar(rows, count, source) == types::desugar(rows, count, target)
 }
 
 // The last strip of a type: no distinct alias is left at its top.
@@ -115,10 +98,8 @@ fn is_strip_of(rows: &[u32], count: u32, n: u32, top: u32) -> bool
     ensures { result ≡ is_strip_of (unfolded rows.now n) (unfolded rows.now top) }
 {
     let wanted = types::desugar(rows, count, n);
-    if types::kind(rows, count, wanted) != types::DISTINCT_ALIAS {
-        return false;
-    }
-    types::strip_to(rows, count, top, wanted) == wanted
+    types::kind(rows, count, wanted) == types::DISTINCT_ALIAS
+        && types::strip_to(rows, count, top, wanted) == wanted
 }
 
 // Whether a value of the type source may be cast to the type target: some pair of their strips fits. Where two strips
@@ -129,13 +110,9 @@ pub fn is_castable_to(rows: &[u32], count: u32, source: u32, target: u32) -> boo
 {
     let from = last_strip(rows, count, source);
     let to = last_strip(rows, count, target);
-    if cast_fits(rows, count, from, to) {
-        return true;
-    }
-    if is_strip_of(rows, count, from, target) {
-        return true;
-    }
-    is_strip_of(rows, count, to, source)
+    cast_fits(rows, count, from, to)
+        || is_strip_of(rows, count, from, target)
+        || is_strip_of(rows, count, to, source)
 }
 
 // How many words the type of row n has.
@@ -143,12 +120,9 @@ pub fn word_size(rows: &[u32], count: u32, n: u32) -> WordSize
     requires { OneType rows.now count n }
     ensures { result ≡ word_size_of (unfolded rows.now n) }
 {
-    let word = types::words(rows, count, n);
-    if word <= LARGEST {
-        return WordSize::Words(word);
+    match types::words(rows, count, n) {
+        words @ 0..=LARGEST => WordSize::Words(words),
+        size_words::TOO_LARGE_WORD => WordSize::TooLarge,
+        _ => WordSize::Unknown,
     }
-    if word == size_words::TOO_LARGE_WORD {
-        return WordSize::TooLarge;
-    }
-    WordSize::Unknown
 }

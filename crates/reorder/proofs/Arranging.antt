@@ -12,9 +12,8 @@ use Rattle.shape.specs.Shape.{an_item, due_in}
 use Rattle.shape.specs.declared.Holds.TheVariants.{Items}
 use Rattle.record_bytes.specs.Bytes.{word_at}
 use Rattle.names.specs.Names.{chain, names_end, item_places, item_bytes}
-use Rattle.layout.specs.Layout.{stop_at, layout_of}
+use Rattle.layout.specs.Layout.{Good, stop_at, layout_of}
 use Rattle.node.specs.Fine.{FineRecord, FineList}
-use Rattle.layout.specs.declared.Layout.TheVariants.{Good}
 use Rattle.node.proofs.Open.{opened, split_may, fine_stands, names_inside, few_bytes, items_list, item_chain}
 use Rattle.meaning.proofs.Permutation.{along, invariant}
 use Rattle.reorder.specs.Order.{joined, arranged, Places}

@@ -11,9 +11,8 @@ use Rattle.shape.specs.Shape.{an_item, due_in}
 use Rattle.shape.specs.declared.Holds.TheVariants.{Items}
 use Rattle.record_bytes.specs.Bytes.{word_at}
 use Rattle.names.specs.Names.{stands, chain, names_end, item_places}
-use Rattle.layout.specs.Layout.{layout_of, max_bytes}
+use Rattle.layout.specs.Layout.{Good, layout_of, max_bytes}
 use Rattle.node.specs.Fine.{FineList}
-use Rattle.layout.specs.declared.Layout.TheVariants.{Good}
 use Rattle.node.proofs.Open.{opened, split_may, fine_stands, few_bytes, items_list, item_chain}
 use Rattle.names.proofs.NameLaws.{chain_none, chain_more}
 use Rattle.reorder.specs.Order.{max_items, PlacesListed}

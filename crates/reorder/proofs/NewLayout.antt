@@ -14,8 +14,9 @@ use Rattle.shape.specs.declared.Holds.TheVariants.{Nothing, OneModule, NamesThen
 use Rattle.shape.proofs.ShapeLaws.{module_kind}
 use Rattle.record_bytes.specs.Bytes.{word_at}
 use Rattle.names.specs.Names.{names_end, name_places, name_bytes, names_of, name_count, item_bytes}
-use Rattle.layout.specs.Layout.{max_bytes, max_depth, kind_at, class_at, stop_at, answer_if, after_head, list_at, record_at, layout_of}
-use Rattle.layout.specs.declared.Layout.TheVariants.{Good, TooLong}
+use Rattle.layout.specs.Layout.{Good, max_bytes, max_depth, kind_at, class_at, stop_at, answer_if, after_head, list_at, record_at, layout_of}
+use Rattle.layout.specs.declared.LayoutError.TheVariants.{TooLong}
+use Rattle.std.proofs.Common.{Err}
 use Rattle.layout.proofs.LayoutLaws.{list_step_lem, record_step}
 use Rattle.node.proofs.Open.{headed, opened, split_must}
 use Rattle.node.proofs.Open.{ModuleRecord, empty_or_record, module_list, module_parts, names_room, names_inside, few_bytes}
@@ -104,7 +105,7 @@ module _ (s places : List ℕ) (p : Places s places) (whole : ModuleRecord s) wh
       let all = (module_parts s whole).whole in
       let none : (shape_of (kind_at s 0)).fields ≡ 0 = ap (λ (x : ℕ). (shape_of x).fields) k in
       let moved = head_moved n m s 0 0 head (new_same s places p) 0 0 0 (omega arith) (omega arith) (length m) (length s) (must_be a_module Nothing) (must_be a_module Nothing)
-      h.start h.stop h.holds h.next h.head (omega (arith, low)) (omega (arith, long)) (ap (may_stand (must_be a_module Nothing)) o.belongs) in
+      h.head h.is (omega (arith, low)) (omega (arith, long)) (ap (may_stand (must_be a_module Nothing)) o.belongs) in
       let from : 0 + 16 + 4 * (shape_of (kind_at s 0)).fields ≡ 16 = omega arith in
       let to : 0 + word_at s 0 ≡ length m = omega (arith, long) in
       let holds : (shape_of (kind_at s 0)).holds ≡ NamesThenItems = ap (λ (x : ℕ). (shape_of x).holds) k in
@@ -136,7 +137,7 @@ module _ (s places : List ℕ) (p : Places s places) (whole : ModuleRecord s) wh
   record_good =
       let some : eqb (length m) 0 ≡ false = ne_eqb (length m) 0 (λ (z : length m ≡ 0). omega (arith, long, whole.some)) in
       let few : ltb max_bytes (length m) ≡ false = le-ltb max_bytes (length m) (omega (arith, long, few_bytes s p.layout)) in
-      (λ j. answer_if (some j) Good (λ _. answer_if (few j) TooLong (λ _. list_at (record_at (name_count m) m max_depth) m (suc (length m)) 0 (length m) OneModule)))
+      (λ j. answer_if (some j) Good (λ _. answer_if (few j) (Err TooLong) (λ _. list_at (record_at (name_count m) m max_depth) m (suc (length m)) 0 (length m) OneModule)))
       ∙ ap (λ (k : ℕ). list_at (record_at k m max_depth) m (suc (length m)) 0 (length m) OneModule) same_count ∙ whole_good
 
 -- The file of no bytes too

@@ -10,9 +10,11 @@ use lib.ListN.{length, take, drop}
 use lib.Seq.{length-take-le, take_at}
 use borrow.Author.Tests.{lt-ltb, le-ltb}
 use Rattle.fallible.specs.Outcome.{Outcome, refused, accepted, or_next, outcome_after}
-use Rattle.layout.specs.Layout.{layout_of, layout_refusal, layout_tests}
-use Rattle.layout.specs.declared.Layout.{Layout}
-use Rattle.layout.specs.declared.Layout.TheVariants.{Good, TooLong, Fault, TooDeep}
+use Rattle.std.proofs.Common.{Err}
+use Rattle.refusal.specs.Refusal.{number_of, place_of}
+use Rattle.layout.specs.Layout.{Layout, Good, layout_of, layout_refusal, layout_tests, cause_of}
+use Rattle.layout.specs.declared.LayoutError.{LayoutError}
+use Rattle.layout.specs.declared.LayoutError.TheVariants.{TooLong, Fault, TooDeep}
 use Rattle.layout.proofs.LayoutLaws.{only_good}
 use Rattle.meaning.specs.Promise.{refuse_if}
 use Rattle.meaning.proofs.Permutation.{length_permuted}
@@ -48,6 +50,10 @@ module _ (s words places : List ℕ) (count number : ℕ) (l : PlacesListed s wo
 refused_never : {cause place : ℕ} → ◌≡◌ {A = Outcome Unit} (refused cause place) (accepted tt) → ⊥
 refused_never e = let z : ◌≡◌ {A = ℕ} 0 1 = cc in omega arith
 
+pub good_layout : (input : List ℕ) → layout_refusal Good ≡ layout_tests input → layout_of input ≡ Good
+unfolding layout_refusal
+good_layout input h = only_good (layout_of input) (sym h)
+
 module _ (input : List ℕ) (number : ℕ) (before : List ℕ) where
   turned_back_lem : (cause place : ℕ) → refusal input (length before) ≡ some (cause, place) → Shuffled input number before before (refused cause place)
   turned_back_lem cause place e =
@@ -57,26 +63,16 @@ module _ (input : List ℕ) (number : ℕ) (before : List ℕ) where
         written = λ z. absurd (refused_never z);
       }
 
-  -- Tests 1 to 3, by what the layout is
-  module _ (r : Layout) (e : layout_refusal r ≡ layout_tests input) where
-    by_layout : {y : Layout} → r ≡ y → refusal input (length before) ≡ or_next (layout_refusal y) (refuse_if (ltb (length before) (length input)) 5)
-    by_layout q = ap (λ (x : Option (ℕ × ℕ)). or_next x (refuse_if (ltb (length before) (length input)) 5)) (sym e ∙ ap layout_refusal q)
-
-    pub too_long : r ≡ TooLong → Shuffled input number before before (refused 1 0)
-    unfolding layout_refusal
-    too_long q = turned_back_lem 1 0 (by_layout q)
-
-    pub a_fault : {p : ℕ} → r ≡ Fault p → Shuffled input number before before (refused 2 p)
-    unfolding layout_refusal
-    a_fault {p} q = turned_back_lem 2 p (by_layout q)
-
-    pub too_deep : {p : ℕ} → r ≡ TooDeep p → Shuffled input number before before (refused 3 p)
-    unfolding layout_refusal
-    too_deep {p} q = turned_back_lem 3 p (by_layout q)
-
-    pub good_layout : r ≡ Good → layout_of input ≡ Good
-    unfolding layout_refusal
-    good_layout q = only_good (layout_of input) (sym e ∙ ap layout_refusal q)
+  -- Tests 1 to 3
+  pub bad_layout : (e : LayoutError) → layout_refusal (Err e) ≡ layout_tests input → Shuffled input number before before (refused (number_of (cause_of e)) (place_of (cause_of e)))
+  unfolding layout_refusal
+  bad_layout e h = go e (ap (λ (x : Option (ℕ × ℕ)). or_next x (refuse_if (ltb (length before) (length input)) 5)) (sym h))
+    where
+      go : (e : LayoutError) → refusal input (length before) ≡ or_next (layout_refusal (Err e)) (refuse_if (ltb (length before) (length input)) 5)
+          → Shuffled input number before before (refused (number_of (cause_of e)) (place_of (cause_of e)))
+      go TooLong q = turned_back_lem 1 0 q
+      go (Fault p) q = turned_back_lem 2 p q
+      go (TooDeep p) q = turned_back_lem 3 p q
 
   -- Test 5
   module _ (e : layout_of input ≡ Good) where

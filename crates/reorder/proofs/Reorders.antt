@@ -5,8 +5,7 @@ use mathlib.Core.List.{List, [], map}
 use lib.ListN.{length, take}
 use lib.Seq.{length-take-le, take_at}
 use Rattle.names.specs.Names.{names_end, item_places, item_bytes}
-use Rattle.layout.specs.Layout.{layout_of}
-use Rattle.layout.specs.declared.Layout.TheVariants.{Good}
+use Rattle.layout.specs.Layout.{Good, layout_of}
 use Rattle.node.proofs.Open.{names_inside}
 use Rattle.meaning.specs.JoiningOrder.{AnotherOrder}
 use Rattle.reorder.specs.Order.{joined, arranged, permuted_by, shuffled_module, Places, Reordered}

@@ -4,12 +4,9 @@ use mathlib.Core.List.{List, [], ◌∷◌, ◌++◌, map, Permᴰ}
 use Rattle.std.proofs.Math.Option.{Option}
 use Rattle.fallible.specs.Outcome.{Outcome, refused, accepted, or_next, outcome_after}
 use Rattle.names.specs.Names.{names_end, item_places, item_bytes}
-use Rattle.layout.specs.Layout.{layout_of, layout_refusal}
-use Rattle.layout.specs.declared.Layout.TheVariants.{Good}
+use Rattle.layout.specs.Layout.{Good, layout_of, layout_refusal}
 use Rattle.meaning.specs.Promise.{refuse_if}
 use Rattle.meaning.specs.JoiningOrder.{AnotherOrder}
-use Rattle.reorder.specs.declared.Answer.{Answer}
-use Rattle.reorder.specs.declared.Answer.TheVariants.{Written, Refused}
 
 -- Texts one after the other
 unfoldable pub joined : List (List ℕ) → List ℕ
@@ -68,11 +65,6 @@ pub record Places (s places : List ℕ) : Type 0 where
 -- Why a module is turned back: tests 1 to 3, then 5, where the output is shorter than the input
 abbrev pub refusal : (input : List ℕ) → (room : ℕ) → Option (ℕ × ℕ)
 refusal input room = or_next (layout_refusal (layout_of input)) (refuse_if (ltb room (length input)) 5)
-
--- The number of the refusal and its place, of each case of the answer; `Written` has no values
-abbrev pub outcome_of : Answer → Outcome Unit
-outcome_of Written = accepted tt
-outcome_of (Refused number place) = refused number place
 
 -- What `shuffle` promises: the module in its new order and the output past it as it was; nothing is written where it is turned back
 pub record Shuffled (input : List ℕ) (number : ℕ) (before after : List ℕ) (answer : Outcome Unit) : Type 0 where

@@ -3,40 +3,14 @@
 // number and the place of the refusal, or 0 and 0; how many rows, errors and slots there are, and names whose working
 // words are cleared; then the module; the rows in any numbering from 1; the errors, and the row of each slot in byte
 // order, by that numbering. src/messages.rt has what comes of messages.
-ghost use Rattle.std.specs.Prelude.{◌<◌, ◌≤◌, ◌^◌};
+ghost use Rattle.std.specs.Prelude.{◌<◌, ◌^◌};
 
 use crate::expected::word_of;
 use fallible::ERROR_WIDTH;
 use rows::ROW_WIDTH;
 
-// The bytes of the words before the module, and the places of these words.
+// The bytes of the words before the module.
 pub(crate) const HEAD: usize = 52;
-
-pub(crate) const TOTAL: usize = 0;
-
-pub(crate) const ASKED: usize = 1;
-
-pub(crate) const MODULE: usize = 2;
-
-pub(crate) const OUTPUT: usize = 3;
-
-pub(crate) const ROWS: usize = 4;
-
-pub(crate) const ERRORS: usize = 5;
-
-pub(crate) const WORK: usize = 6;
-
-pub(crate) const NUMBER: usize = 7;
-
-pub(crate) const PLACE: usize = 8;
-
-pub(crate) const ROW_COUNT: usize = 9;
-
-pub(crate) const ERROR_COUNT: usize = 10;
-
-const SLOT_COUNT: usize = 11;
-
-pub(crate) const NAME_COUNT: usize = 12;
 
 // What is asked: a check is 0.
 pub(crate) const MESSAGES: u32 = 1;
@@ -51,26 +25,62 @@ pub(crate) fn size(case: &[u8], i: usize) -> usize
     word_of(case, i) as usize
 }
 
-// Where the parts of a case start and where the last ends.
-#[derive(Clone, Copy)]
-pub(crate) struct Parts {
-    pub rows: usize,
-    pub errors: usize,
-    pub slots: usize,
-    pub end: usize,
+// Whether messages are asked for.
+pub(crate) fn asks_messages(case: &[u8]) -> bool {
+    word_of(case, 1) == MESSAGES
 }
 
-pub(crate) fn parts_of(case: &[u8]) -> Parts
-    ensures { (52 ≤ result.rows) × (result.rows ≤ result.errors) × (result.errors ≤ result.slots) × (result.slots ≤ result.end) }
-{
-    let rows = HEAD + size(case, MODULE);
-    let errors = rows + WORD * ROW_WIDTH * size(case, ROW_COUNT);
-    let slots = errors + WORD * ERROR_WIDTH * size(case, ERROR_COUNT);
-    let end = slots + WORD * size(case, SLOT_COUNT);
-    Parts {
+// The bytes and words that are lent for a check.
+#[derive(Clone, Copy)]
+pub(crate) struct Lent {
+    pub output: usize,
+    pub rows: usize,
+    pub errors: usize,
+    pub work: usize,
+}
+
+// A case of a check.
+#[derive(Clone, Copy)]
+pub(crate) struct Check<'a> {
+    pub lent: Lent,
+    pub number: u32,
+    pub place: usize,
+    pub row_count: u32,
+    pub error_count: usize,
+    pub name_count: u32,
+    pub module: &'a [u8],
+    pub rows: &'a [u8],
+    pub errors: &'a [u8],
+    pub slots: &'a [u8],
+}
+
+// The case by its parts, if it is whole.
+pub(crate) fn read_check<'a>(case: &'a [u8]) -> Option<Check<'a>> {
+    let (head, rest) = case.split_at_checked(HEAD)?;
+    let lent = Lent {
+        output: size(head, 3),
+        rows: size(head, 4),
+        errors: size(head, 5),
+        work: size(head, 6),
+    };
+    let row_count = word_of(head, 9);
+    let error_count = size(head, 10);
+    let (module, rest) = rest.split_at_checked(size(head, 2))?;
+    let (rows, rest) = rest.split_at_checked(WORD * ROW_WIDTH * row_count as usize)?;
+    let (errors, slots) = rest.split_at_checked(WORD * ERROR_WIDTH * error_count)?;
+    if slots.len() != WORD * size(head, 11) || case.len() != size(head, 0) {
+        return None;
+    }
+    Some(Check {
+        lent,
+        number: word_of(head, 7),
+        place: size(head, 8),
+        row_count,
+        error_count,
+        name_count: word_of(head, 12),
+        module,
         rows,
         errors,
         slots,
-        end,
-    }
+    })
 }

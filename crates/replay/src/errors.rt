@@ -2,34 +2,12 @@
 use crate::expected::{number_of, word_of};
 use fallible::ERROR_WIDTH;
 
-// Whether the operand of an error of this kind is a row: the first, the second, the third.
-fn first_is_row(kind: u32) -> bool {
-    match kind {
-        8 | 9 | 13..=22 | 26 | 28 => true,
-        _ => false,
-    }
-}
-
-fn second_is_row(kind: u32) -> bool {
-    match kind {
-        3 | 8 | 12 | 15 | 24 => true,
-        _ => false,
-    }
-}
-
-fn third_is_row(kind: u32) -> bool {
-    match kind {
-        12 | 24 => true,
-        _ => false,
-    }
-}
-
 // Whether a word of an error of this kind is a row: its operands are the words 4 to 6.
 fn is_row(kind: u32, place: usize) -> bool {
     match place {
-        4 => first_is_row(kind),
-        5 => second_is_row(kind),
-        6 => third_is_row(kind),
+        4 => matches!(kind, 8 | 9 | 13..=22 | 26 | 28),
+        5 => matches!(kind, 3 | 8 | 12 | 15 | 24),
+        6 => matches!(kind, 12 | 24),
         _ => false,
     }
 }
@@ -40,19 +18,16 @@ fn error_word(errors: &[u8], i: usize, numbers: &[u32]) -> u32 {
     let kind = word_of(errors, i - place);
     let value = word_of(errors, i);
     if is_row(kind, place) {
-        return number_of(numbers, value);
+        number_of(numbers, value)
+    } else {
+        value
     }
-    value
 }
 
 // Whether the checker's errors are those of the case.
 pub(crate) fn errors_match(expected: &[u8], errors: &[u32], numbers: &[u32]) -> bool {
-    let mut i = 0;
-    while i < errors.len() {
-        if errors[i] != error_word(expected, i, numbers) {
-            return false;
-        }
-        i += 1;
-    }
-    true
+    errors
+        .iter()
+        .enumerate()
+        .all(|(i, word)| *word == error_word(expected, i, numbers))
 }

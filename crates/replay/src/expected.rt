@@ -18,9 +18,5 @@ pub(crate) fn word_of(part: &[u8], i: usize) -> u32
 pub(crate) fn number_of(numbers: &[u32], n: u32) -> u32
     ensures { result ≡ get_or numbers.now n 0 }
 {
-    let i = n as usize;
-    if numbers.len() <= i {
-        return 0;
-    }
-    numbers[i]
+    numbers.get(n as usize).copied().unwrap_or(0)
 }

@@ -1,19 +1,15 @@
 // One case: the checker is run with what the case lends, and what it leaves is compared.
-use crate::case::{
-    ASKED, ERROR_COUNT, ERRORS, HEAD, MESSAGES, MODULE, NUMBER, OUTPUT, PLACE, ROW_COUNT, ROWS,
-    TOTAL, WORK, parts_of, size,
-};
+use crate::case::{Check, WORD, asks_messages, read_check};
 use crate::errors::errors_match;
-use crate::expected::word_of;
-use crate::lent::{fill, lent_match};
+use crate::lent::{fill_all, lent_match};
 use crate::messages::judge_messages;
 use crate::output::output_matches;
 use crate::row_numbers::rows_match;
-use fallible::ERROR_WIDTH;
-use type_check::{Answer, type_check_module};
+use refusal::Refusal;
+use type_check::{Counts, type_check_module};
 
 // What becomes of a case: it is accepted or refused as expected, or it differs.
-#[derive(Clone, Copy)]
+#[derive(Clone, Copy, PartialEq, Eq)]
 pub(crate) enum Verdict {
     Good,
     Refused,
@@ -21,100 +17,62 @@ pub(crate) enum Verdict {
 }
 
 // A refusal is as expected or not.
-fn judge_refusal(case: &[u8], number: u32, place: usize) -> Verdict {
-    if number != word_of(case, NUMBER) {
-        return Verdict::Differs;
+fn judge_refusal(check: &Check, refusal: Refusal) -> Verdict {
+    if refusal.number() == check.number && refusal.place() == check.place {
+        Verdict::Refused
+    } else {
+        Verdict::Differs
     }
-    if place != size(case, PLACE) {
-        return Verdict::Differs;
-    }
-    Verdict::Refused
-}
-
-// Whether the case is accepted with these counts.
-fn counts_match(case: &[u8], rows: u32, errors: usize) -> bool {
-    if word_of(case, NUMBER) != 0 {
-        return false;
-    }
-    if rows != word_of(case, ROW_COUNT) {
-        return false;
-    }
-    errors == size(case, ERROR_COUNT)
 }
 
 // Whether the rows, the errors and the output are those of the case.
-fn results_match(case: &[u8], output: &[u8], rows: &[u32], errors: &[u32]) -> bool {
-    let parts = parts_of(case);
-    let rows_at = parts.rows;
-    let errors_at = parts.errors;
-    let slots_at = parts.slots;
-    let end = parts.end;
-    if case.len() < end {
+fn results_match(check: &Check, output: &[u8], rows: &[u32], errors: &[u32]) -> bool {
+    let length = check.module.len();
+    let error_words = check.errors.len() / WORD;
+    if output.len() < length || errors.len() < error_words {
         return false;
     }
     let mut numbers = [0u32; 3001];
-    if !rows_match(
-        &case[rows_at..errors_at],
-        rows,
-        word_of(case, ROW_COUNT),
-        &mut numbers,
-    ) {
-        return false;
-    }
-    if !errors_match(&case[errors_at..slots_at], errors, &numbers) {
-        return false;
-    }
-    output_matches(&case[HEAD..rows_at], output, &case[slots_at..end], &numbers)
+    rows_match(check.rows, rows, check.row_count, &mut numbers)
+        && errors_match(check.errors, &errors[..error_words], &numbers)
+        && output_matches(check.module, &output[..length], check.slots, &numbers)
 }
 
-fn judge_acceptance(case: &[u8], output: &[u8], rows: &[u32], errors: &[u32]) -> Verdict {
-    let errors_end = ERROR_WIDTH * size(case, ERROR_COUNT);
-    let length = size(case, MODULE);
-    if output.len() < length {
-        return Verdict::Differs;
+// Whether the case is accepted with these counts and results.
+fn judge_acceptance(
+    check: &Check,
+    counts: Counts,
+    output: &[u8],
+    rows: &[u32],
+    errors: &[u32],
+) -> Verdict {
+    if check.number == 0
+        && counts.rows == check.row_count
+        && counts.errors == check.error_count
+        && results_match(check, output, rows, errors)
+    {
+        Verdict::Good
+    } else {
+        Verdict::Differs
     }
-    if errors.len() < errors_end {
-        return Verdict::Differs;
-    }
-    if results_match(case, &output[0..length], rows, &errors[0..errors_end]) {
-        return Verdict::Good;
-    }
-    Verdict::Differs
 }
 
-// Fills what is lent and runs the checker.
-fn run(
-    module: &[u8],
-    output: &mut [u8],
-    rows: &mut [u32],
-    errors: &mut [u32],
-    work: &mut [u32],
-) -> Answer {
-    fill(output, rows, errors, work);
-    type_check_module(module, output, rows, errors, work)
-}
-
-// Runs the checker on the module of a case with what is lent, and compares.
-fn judge_module(
-    case: &[u8],
-    module: &[u8],
+// Fills what is lent, runs the checker on the module of the case and compares.
+fn judge_lent(
+    check: &Check,
     output: &mut [u8],
     rows: &mut [u32],
     errors: &mut [u32],
     work: &mut [u32],
 ) -> Verdict {
-    let answer = run(module, output, rows, errors, work);
-    if !lent_match(case, output, rows, errors, work) {
+    fill_all(output, rows, errors, work);
+    let answer = type_check_module(check.module, output, rows, errors, work);
+    if !lent_match(check, output, rows, errors, work) {
         return Verdict::Differs;
     }
     match answer {
-        Answer::Refused { number, place } => judge_refusal(case, number, place),
-        Answer::Accepted { rows: r, errors: e } => {
-            if counts_match(case, r, e) {
-                return judge_acceptance(case, output, rows, errors);
-            }
-            Verdict::Differs
-        }
+        Ok(counts) => judge_acceptance(check, counts, output, rows, errors),
+        Err(refusal) => judge_refusal(check, refusal),
     }
 }
 
@@ -127,37 +85,23 @@ fn judge_check(
     errors: &mut [u32],
     work: &mut [u32],
 ) -> Verdict {
-    let parts = parts_of(case);
-    if case.len() != parts.end {
+    let Some(check) = read_check(case) else {
+        return Verdict::Differs;
+    };
+    let lent = check.lent;
+    if output.len() < lent.output
+        || rows.len() < lent.rows
+        || errors.len() < lent.errors
+        || work.len() < lent.work
+    {
         return Verdict::Differs;
     }
-    if case.len() != size(case, TOTAL) {
-        return Verdict::Differs;
-    }
-    let rows_at = parts.rows;
-    let bytes = size(case, OUTPUT);
-    let row_words = size(case, ROWS);
-    let error_words = size(case, ERRORS);
-    let words = size(case, WORK);
-    if output.len() < bytes {
-        return Verdict::Differs;
-    }
-    if rows.len() < row_words {
-        return Verdict::Differs;
-    }
-    if errors.len() < error_words {
-        return Verdict::Differs;
-    }
-    if work.len() < words {
-        return Verdict::Differs;
-    }
-    judge_module(
-        case,
-        &case[HEAD..rows_at],
-        &mut output[0..bytes],
-        &mut rows[0..row_words],
-        &mut errors[0..error_words],
-        &mut work[0..words],
+    judge_lent(
+        &check,
+        &mut output[..lent.output],
+        &mut rows[..lent.rows],
+        &mut errors[..lent.errors],
+        &mut work[..lent.work],
     )
 }
 
@@ -169,8 +113,9 @@ pub(crate) fn judge(
     errors: &mut [u32],
     work: &mut [u32],
 ) -> Verdict {
-    if word_of(case, ASKED) == MESSAGES {
-        return judge_messages(case, output, rows, errors, work);
+    if asks_messages(case) {
+        judge_messages(case, output, rows, errors, work)
+    } else {
+        judge_check(case, output, rows, errors, work)
     }
-    judge_check(case, output, rows, errors, work)
 }

@@ -11,13 +11,13 @@ mod messages;
 mod output;
 mod row_numbers;
 
-ghost use Rattle.std.specs.Prelude.{◌+◌, ◌<◌, ◌≤◌, length, IfOk, OnErr};
+ghost use Rattle.std.specs.Prelude.{◌≤◌, length, IfOk, OnErr};
 ghost use Rattle.replay.specs.Cases.{ReadSomeOfCase};
 
 use judge::{Verdict, judge};
 use program_support::input::read_full;
 use program_support::loans;
-use program_support::print::{BUFFER, flush, put_text, put_word};
+use program_support::print::Lines;
 use record_bytes::length_at;
 use std::io;
 use std::io::Read;
@@ -49,71 +49,29 @@ fn read_case<R: Read>(input: &mut R, case: &mut [u8]) -> io::Result<usize>
 }
 
 // How many cases are accepted and refused as expected, and how many differ.
-#[derive(Clone, Copy)]
+#[derive(Clone, Copy, Default)]
 struct Tally {
     good: u32,
     refused: u32,
     differ: u32,
 }
 
-// Counts case k.
-fn count(tally: Tally, k: u32, verdict: Verdict) -> Tally
-    requires { (tally.good ≤ k) × (tally.refused ≤ k) × (tally.differ ≤ k) × (k < 1000000) }
-    ensures { (result.good ≤ k + 1) × (result.refused ≤ k + 1) × (result.differ ≤ k + 1) }
-{
-    match verdict {
-        Verdict::Good => Tally {
-            good: tally.good + 1,
-            refused: tally.refused,
-            differ: tally.differ,
-        },
-        Verdict::Refused => Tally {
-            good: tally.good,
-            refused: tally.refused + 1,
-            differ: tally.differ,
-        },
-        Verdict::Differs => Tally {
-            good: tally.good,
-            refused: tally.refused,
-            differ: tally.differ + 1,
-        },
-    }
-}
-
 // `differ 7`
-fn put_case(out: &impl Print, buffer: &mut [u8], used: usize, k: u32) -> io::Result<usize> {
-    let differ = put_text(out, buffer, used, b"differ ")?;
-    let number = put_word(out, buffer, differ, k)?;
-    put_text(out, buffer, number, b"\n")
-}
-
-// The number of case k, if it is one of the first that differ.
-fn put_difference(
-    out: &impl Print,
-    buffer: &mut [u8],
-    used: usize,
-    k: u32,
-    differ: u32,
-    verdict: Verdict,
-) -> io::Result<usize> {
-    if SHOWN <= differ {
-        return Ok(used);
-    }
-    match verdict {
-        Verdict::Differs => put_case(out, buffer, used, k),
-        _ => Ok(used),
-    }
+fn put_case(lines: &mut Lines<impl Print>, k: u32) -> io::Result<()> {
+    lines.put_text(b"differ ")?;
+    lines.put_word(k)?;
+    lines.put_text(b"\n")
 }
 
 // `good 12 refused 3 differ 0`
-fn put_tally(out: &impl Print, buffer: &mut [u8], used: usize, tally: Tally) -> io::Result<usize> {
-    let good = put_text(out, buffer, used, b"good ")?;
-    let good_count = put_word(out, buffer, good, tally.good)?;
-    let refused = put_text(out, buffer, good_count, b" refused ")?;
-    let refused_count = put_word(out, buffer, refused, tally.refused)?;
-    let differ = put_text(out, buffer, refused_count, b" differ ")?;
-    let differ_count = put_word(out, buffer, differ, tally.differ)?;
-    put_text(out, buffer, differ_count, b"\n")
+fn put_tally(lines: &mut Lines<impl Print>, tally: Tally) -> io::Result<()> {
+    lines.put_text(b"good ")?;
+    lines.put_word(tally.good)?;
+    lines.put_text(b" refused ")?;
+    lines.put_word(tally.refused)?;
+    lines.put_text(b" differ ")?;
+    lines.put_word(tally.differ)?;
+    lines.put_text(b"\n")
 }
 
 fn main(rt: HostRuntime) -> io::Result<()> {
@@ -123,30 +81,30 @@ fn main(rt: HostRuntime) -> io::Result<()> {
     let mut rows = [0u32; loans::ROWS];
     let mut errors = [0u32; loans::ERRORS];
     let mut work = [0u32; loans::WORK];
-    let mut buffer = [0u8; BUFFER];
-    let mut held: usize = 0;
-    let mut tally = Tally {
-        good: 0,
-        refused: 0,
-        differ: 0,
-    };
-    let mut k: u32 = 0;
-    while k < CASES {
+    let mut lines = Lines::new(&rt);
+    let mut tally = Tally::default();
+    for k in 0..CASES {
         let total = read_case(&mut input, &mut case)?;
         if total == 0 {
             break;
         }
-        let verdict = judge(
-            &case[0..total],
+        match judge(
+            &case[..total],
             &mut output,
             &mut rows,
             &mut errors,
             &mut work,
-        );
-        held = put_difference(&rt, &mut buffer, held, k, tally.differ, verdict)?;
-        tally = count(tally, k, verdict);
-        k += 1;
+        ) {
+            Verdict::Good => tally.good += 1,
+            Verdict::Refused => tally.refused += 1,
+            Verdict::Differs => {
+                if tally.differ < SHOWN {
+                    put_case(&mut lines, k)?;
+                }
+                tally.differ += 1;
+            }
+        }
     }
-    held = put_tally(&rt, &mut buffer, held, tally)?;
-    flush(&rt, &buffer, held)
+    put_tally(&mut lines, tally)?;
+    lines.flush()
 }

@@ -1,38 +1,21 @@
 // The output of the checker and the input: they differ in the slots alone, which hold the rows of the case.
-ghost use Rattle.std.specs.Prelude.{◌≡◌, ◌≤◌, length};
+ghost use Rattle.std.specs.Prelude.{◌≡◌, length};
 
 use crate::expected::{number_of, word_of};
 use program_support::slots::{next_record, slot_place};
 use record_bytes::{FIELD, word};
 
-// How many slots a record has: 1 or 0.
-fn slot_count(input: &[u8], at: usize) -> usize
-    ensures { result ≤ 1 }
-{
-    let place = slot_place(input, at);
-    if input.len() - place < FIELD {
-        return 0;
-    }
-    1
-}
-
 // Whether a record, up to its first child, is as in the input but for its slot, which holds this row.
 fn record_matches(input: &[u8], output: &[u8], row: u32) -> bool
     requires { length output.now ≡ length input.now }
 {
-    let place = slot_place(input, 0);
-    if input.len() - place < FIELD {
+    let Some(place) = slot_place(input, 0) else {
         return input == output;
-    }
-    if word(output, place) != row {
-        return false;
-    }
-    if &input[0..place] != &output[0..place] {
-        return false;
-    }
+    };
     let rest = place + FIELD;
-    let end = input.len();
-    &input[rest..end] == &output[rest..end]
+    word(output, place) == row
+        && input[..place] == output[..place]
+        && input[rest..] == output[rest..]
 }
 
 // Whether the output is the input with its slots filled with the rows of the case.
@@ -53,7 +36,9 @@ pub(crate) fn output_matches(
         if !record_matches(&input[at..next], &output[at..next], row) {
             return false;
         }
-        i += slot_count(input, at);
+        if slot_place(input, at).is_some() {
+            i += 1;
+        }
         at = next;
     }
     i == expected.len() / FIELD

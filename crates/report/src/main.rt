@@ -2,30 +2,21 @@
 // then kind, file, line and column of each error; or why it is turned back.
 #![tactic(auto)]
 
-ghost use Rattle.std.specs.Prelude.{◌≡◌, ◌≤◌, length, replicate, take, IfOk, OnErr};
+ghost use Rattle.std.specs.Prelude.{◌≡◌, ◌≤◌, length, replicate, take, OnOk, OnErr};
 ghost use Rattle.type_check.specs.Post.{buffers_before, buffers_after, outcome_of};
 ghost use Rattle.records.specs.Records.{zero_record, CheckedRecords};
-ghost use Rattle.program_support.specs.Buffer.{PutAll, PutSome};
+ghost use Rattle.program_support.specs.Lines.{Puts, PutsSome};
 ghost use Rattle.report.specs.Lines.{counts_line, error_line, error_lines};
 
 use fallible::Error;
 use program_support::input::read_full;
 use program_support::loans;
 use program_support::loans::ERROR_COUNT;
-use program_support::print::{
-    BUFFER, flush, print_refused, put_number, put_text, put_word, put_words,
-};
+use program_support::print::{Lines, print_refused};
 use records::type_check_module_records;
 use std::io;
-use type_check::Answer;
 
-// The answer, and the list of error records that was lent for it.
-#[derive(Clone, Copy)]
-struct Report {
-    answer: Answer,
-    errors: [Error; ERROR_COUNT],
-}
-
+// A list of records for the errors of a module.
 fn zero_records() -> [Error; ERROR_COUNT]
     ensures { result ≡ replicate 2000 zero_record }
 {
@@ -42,86 +33,44 @@ fn zero_records() -> [Error; ERROR_COUNT]
     [zero; ERROR_COUNT]
 }
 
-// Checks a module, and lends a list of records for its errors.
-fn report_module(
-    input: &[u8],
-    output: &mut [u8],
-    rows: &mut [u32],
-    words: &mut [u32],
-    work: &mut [u32],
-) -> Report
-    ensures { CheckedRecords input.now
-        (buffers_before output rows words work)
-        (buffers_after output rows words work)
-        (replicate 2000 zero_record) result.errors (outcome_of result.answer) }
-{
-    let mut errors = zero_records();
-    let answer = type_check_module_records(input, output, rows, words, &mut errors, work);
-    Report { answer, errors }
-}
-
 // Kind, file, line and column of an error.
-fn put_error(out: &impl Print, buffer: &mut [u8], used: usize, error: Error) -> io::Result<usize>
-    ensures ok { IfOk result (λ r. PutAll (error_line error) buffer.old used buffer.new r) }
-    ensures err { OnErr result (PutSome (error_line error) buffer.old used buffer.new) }
+fn put_error(lines: &mut Lines<impl Print>, error: &Error) -> io::Result<()>
+    ensures ok { OnOk result (Puts (error_line error.now) lines.old lines.new) }
+    ensures err { OnErr result (PutsSome (error_line error.now) lines.old lines.new) }
 {
-    let kind = put_word(out, buffer, used, error.kind)?;
-    let place = [error.file, error.line, error.column];
-    let words = put_words(out, buffer, kind, &place)?;
-    put_text(out, buffer, words, b"\n")
+    lines.put_word(error.kind)?;
+    lines.put_words(&[error.file, error.line, error.column])?;
+    lines.put_text(b"\n")
 }
 
-fn put_errors(
-    out: &impl Print,
-    buffer: &mut [u8],
-    used: usize,
-    errors: [Error; ERROR_COUNT],
-    count: usize,
-) -> io::Result<usize>
-    requires { (count ≤ 2000) × (count ≤ length errors) }
-    ensures ok { IfOk result (λ r. PutAll (error_lines (take count errors)) buffer.old used buffer.new r) }
-    ensures err { OnErr result (PutSome (error_lines (take count errors)) buffer.old used buffer.new) }
+fn put_errors(lines: &mut Lines<impl Print>, errors: &[Error]) -> io::Result<()>
+    ensures ok { OnOk result (Puts (error_lines errors.now) lines.old lines.new) }
+    ensures err { OnErr result (PutsSome (error_lines errors.now) lines.old lines.new) }
 {
-    let mut held = used;
-    let mut i = 0;
-    while i < count {
-        held = put_error(out, buffer, held, errors[i])?;
-        i += 1;
+    for error in errors {
+        put_error(lines, error)?;
     }
-    Ok(held)
+    Ok(())
 }
 
 // `rows 7 errors 2`
-fn put_counts(
-    out: &impl Print,
-    buffer: &mut [u8],
-    used: usize,
-    rows: u32,
-    errors: usize,
-) -> io::Result<usize>
-    ensures ok { IfOk result (λ r. PutAll (counts_line rows errors) buffer.old used buffer.new r) }
-    ensures err { OnErr result (PutSome (counts_line rows errors) buffer.old used buffer.new) }
+fn put_counts(lines: &mut Lines<impl Print>, rows: u32, errors: usize) -> io::Result<()>
+    ensures ok { OnOk result (Puts (counts_line rows errors) lines.old lines.new) }
+    ensures err { OnErr result (PutsSome (counts_line rows errors) lines.old lines.new) }
 {
-    let rows_text = put_text(out, buffer, used, b"rows ")?;
-    let rows_count = put_word(out, buffer, rows_text, rows)?;
-    let errors_text = put_text(out, buffer, rows_count, b" errors ")?;
-    let errors_count = put_number(out, buffer, errors_text, errors as u64)?;
-    put_text(out, buffer, errors_count, b"\n")
+    lines.put_text(b"rows ")?;
+    lines.put_word(rows)?;
+    lines.put_text(b" errors ")?;
+    lines.put_number(errors as u64)?;
+    lines.put_text(b"\n")
 }
 
 // What is found in a module.
-fn print_accepted(
-    out: &impl Print,
-    rows: u32,
-    count: usize,
-    errors: [Error; ERROR_COUNT],
-) -> io::Result<()>
-    requires { (count ≤ 2000) × (count ≤ length errors) }
-{
-    let mut buffer = [0u8; BUFFER];
-    let counts = put_counts(out, &mut buffer, 0, rows, count)?;
-    let held = put_errors(out, &mut buffer, counts, errors, count)?;
-    flush(out, &buffer, held)
+fn print_accepted(out: &impl Print, rows: u32, errors: &[Error]) -> io::Result<()> {
+    let mut lines = Lines::new(out);
+    put_counts(&mut lines, rows, errors.len())?;
+    put_errors(&mut lines, errors)?;
+    lines.flush()
 }
 
 fn main(rt: HostRuntime) -> io::Result<()> {
@@ -129,15 +78,18 @@ fn main(rt: HostRuntime) -> io::Result<()> {
     let mut output = [0u8; loans::OUTPUT];
     let mut rows = [0u32; loans::ROWS];
     let mut words = [0u32; loans::ERRORS];
+    let mut errors = zero_records();
     let mut work = [0u32; loans::WORK];
     let n = read_full(&mut rt.stdin(), &mut input)?;
-    let report = report_module(&input[..n], &mut output, &mut rows, &mut words, &mut work);
-    let answer = report.answer;
-    match answer {
-        Answer::Refused { number, place } => print_refused(&rt, number, place),
-        Answer::Accepted { rows: r, errors: e } => {
-            let errors = report.errors;
-            print_accepted(&rt, r, e, errors)
-        }
+    match type_check_module_records(
+        &input[..n],
+        &mut output,
+        &mut rows,
+        &mut words,
+        &mut errors,
+        &mut work,
+    ) {
+        Ok(counts) => print_accepted(&rt, counts.rows, &errors[..counts.errors]),
+        Err(refusal) => print_refused(&rt, refusal),
     }
 }

@@ -7,7 +7,6 @@ use lib.ListN.{length, get_or, take, drop, replicate, length-append, length-repl
 use lib.Seq.{length-take-le, get_or-take, take_at, drop_at}
 use Rattle.literal.specs.Digits.{bytes, DigitTable}
 use Rattle.rows.specs.Row.{row_at}
-use Rattle.rows.specs.declared.Words.{Words}
 use Rattle.row_index.specs.Index.{digits_start, index_length, with_row, with_next, with_rows, Indexed}
 use Rattle.row_index.proofs.Index.{rows_indexed_none, indexed_more}
 
@@ -64,26 +63,6 @@ module _ (b w w' : List ℕ) (m : ℕ) where
 
   pub rows_kept : (n : ℕ) → ((i : ℕ) → m < i → i ≤ n → row_at w' i ≡ row_at w i) → m ≤ n → with_rows b w' m n ≡ with_rows b w m n
   rows_kept n same h = next_kept (n - m) (λ i l q. same i l (omega arith))
-
--- The first n of the rows are in their buckets
-pub record Linking (b w : List ℕ) (count : ℕ) (b' : List ℕ) (n : ℕ) : Type 0 where
-  pub high : n ≤ count
-  pub are : b' ≡ with_rows b w 0 n
-
-module _ (b w : List ℕ) (count : ℕ) where
-  pub linking_start : Linking b w count b 0
-  linking_start = record { high = omega arith; are = sym (rows_none b w 0) }
-
-  module _ (b' : List ℕ) (n : ℕ) (s : Linking b w count b' n) where
-    pub linking_on : n < count → (q : Words) → q ≡ row_at w (n + 1) → (b'' : List ℕ) → b'' ≡ with_row b' (n + 1) q → Linking b w count b'' (n + 1)
-    linking_on h q e b'' same =
-        record {
-          high = omega arith;
-          are = same ∙ ap (with_row b' (n + 1)) e ∙ ap (λ (x : List ℕ). with_row x (n + 1) (row_at w (n + 1))) s.are ∙ sym (rows_more b w 0 n (omega arith));
-        }
-
-    pub linking_end : count ≤ n → b' ≡ with_rows b w 0 count
-    linking_end h = let p = s.high in let e : n ≡ count = omega arith in s.are ∙ ap (with_rows b w 0) e
 
 -- A list of which the last m words were written
 module _ (l part : List ℕ) (n m : ℕ) (long : length l ≡ n + m) (fits : length part ≡ m) where

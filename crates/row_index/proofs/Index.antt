@@ -10,11 +10,11 @@ use lib.Dec.{leb, eqb}
 use lib.ListN.{length, get_or, set, take, length-set}
 use lib.Seq.{get_or-set_same, get_or-set_other, drop-set-lt}
 use Rattle.literal.specs.Digits.{bytes, DigitTable}
-use Rattle.rows.specs.Row.{row_at, Distinct}
-use Rattle.rows.specs.Search.{Decides, Found}
+use Rattle.rows.specs.Row.{row_at}
+use Rattle.rows.specs.Search.{Decides}
 use Rattle.rows.specs.declared.Words.{Words}
 use Rattle.rows.proofs.Search.{last_or}
-use Rattle.row_index.specs.Index.{heads, places, digits_start, index_length, digits_in, bucket_of, with_row, Highest, RowsIndexed, Indexed, Followed}
+use Rattle.row_index.specs.Index.{heads, places, digits_start, index_length, digits_in, bucket_of, with_row, Highest, RowsIndexed, Indexed}
 
 pub bucket_low : (r : Words) → bucket_of r < heads
 unfolding bucket_of
@@ -42,39 +42,8 @@ module _ (w b : List ℕ) (m count : ℕ) (r : Words) where
         top = λ i p q x. first.top i (omega arith) (omega arith) (ap bucket_of x ∙ sym e);
       }
 
-  pub followed_none : (n : ℕ) → Following w b m count r n → n ≤ m → Followed w m count r 0
-  followed_none n s h =
-      record {
-        high = omega arith;
-        past = λ l. absurd (omega arith);
-        found = λ l. absurd (omega arith);
-        absent = λ z i l q room x. let t = s.top i l (indexed_far s.indexed i q room) x in omega arith;
-      }
-
-  -- Rows with these words stand at row n or below
-  pub followed_rest : (n : ℕ) → Following w b m count r n → (k : ℕ) → Found w m n r k → Followed w m count r k
-  followed_rest n s k f =
-      record {
-        high = omega (arith, f.high, s.high, s.indexed.few);
-        past = f.past;
-        found = f.found;
-        absent = λ z i l q room x. f.absent z i l (s.top i l (indexed_far s.indexed i q room) x) x;
-      }
-
   module _ (n : ℕ) (s : Following w b m count r n) (past : m < n) where
-    pub following_low : n ≤ count
-    following_low = omega (arith, s.high, s.indexed.few)
-
-    pub following_place : n ≤ places
-    following_place = omega (arith, s.high, s.indexed.fits)
-
-    pub following_less : get_or b (heads + n - 1) 0 < n
-    following_less = (s.indexed.link n (omega arith) s.high).low
-
     module _ (q : Words) (e : q ≡ row_at w n) (x : Bool) (d : Decides (q ≡ r) x) where
-      pub followed_here : x ≡ true → Followed w m count r n
-      followed_here t = record { high = following_low; past = λ l. past; found = λ l. sym e ∙ d.yes t; absent = λ z. absurd (omega arith) }
-
       pub following_on : x ≡ false → Following w b m count r (get_or b (heads + n - 1) 0)
       following_on f =
           let next = s.indexed.link n (omega arith) s.high in
@@ -89,49 +58,6 @@ module _ (w b : List ℕ) (m count : ℕ) (r : Words) where
           lower : (i : ℕ) → i ≤ n → row_at w i ≡ r → i < n
           lower i h g =
               last_or (n - 1) i (omega arith) (i < n) (λ l. omega arith) (λ here. let j : n ≡ i = omega arith in absurd (d.no f (e ∙ ap (row_at w) j ∙ g)))
-
--- The answer of `find`: where a row of the bucket is it, no other row is
-pub found_followed : {w : List ℕ} {m count : ℕ} {r : Words} {n : ℕ} → Distinct w count → Followed w m count r n → (n ≡ 0 → ⊥) → Found w m count r n
-found_followed {w} {n = n} d s ne =
-    let p = s.past (omega arith) in
-    let h = s.high in
-    record {
-      high = h;
-      past = s.past;
-      found = s.found;
-      first = λ i l q x. let e = d i n (omega arith) (omega arith) (omega arith) h (x ∙ sym (s.found (omega arith))) in omega arith;
-      absent = λ z. absurd (ne z);
-    }
-
--- Where none is: none at all, or a row that has no place
-module _ {w : List ℕ} {m count : ℕ} {r : Words} {n : ℕ} (s : Followed w m count r n) (z : n ≡ 0) where
-  pub found_none : count ≤ places → Found w m count r 0
-  found_none h =
-      record {
-        high = omega arith;
-        past = λ l. absurd (omega arith);
-        found = λ l. absurd (omega arith);
-        first = λ i l q. absurd (omega arith);
-        absent = λ _ i l q. s.absent z i l q (omega arith);
-      }
-
-  pub found_behind : {k : ℕ} → Found w places count r k → m < places → Found w m count r k
-  found_behind {k} f h =
-      record {
-        high = f.high;
-        past = λ l. let p = f.past l in omega arith;
-        found = f.found;
-        first = λ i l q x. earlier i l q x (leb i places) refl;
-        absent = λ y i l q x. none y i l q x (leb i places) refl;
-      }
-    where
-      earlier : (i : ℕ) → m < i → i < k → row_at w i ≡ r → (t : Bool) → leb i places ≡ t → ⊥
-      earlier i l q x true t = let h = f.high in s.absent z i l (omega arith) (leb-true i places t) x
-      earlier i l q x false t = f.first i (leb-false i places t) q x
-
-      none : k ≡ 0 → (i : ℕ) → m < i → i ≤ count → row_at w i ≡ r → (t : Bool) → leb i places ≡ t → ⊥
-      none y i l q x true t = s.absent z i l q (leb-true i places t) x
-      none y i l q x false t = f.absent y i (leb-false i places t) q x
 
 -- A row in its bucket
 pub with_row_lem : (b : List ℕ) (n : ℕ) (r : Words) → n ≤ places → with_row b n r ≡ set (set b (heads + n - 1) (get_or b (bucket_of r) 0)) (bucket_of r) n

@@ -1,5 +1,5 @@
 -- An index of rows: for each bucket its highest row, and for each row the one before it in its bucket. Behind them stands the table of digits.
-use Rattle.std.specs.Prelude.{ℕ, zero, suc, ◌+◌, ◌-◌, ◌*◌, ◌/◌, ◌%◌, ◌≤◌, ◌<◌, ◌≡◌, cond, List, ◌⊎◌, leb, length, get_or, set, take, drop}
+use Rattle.std.specs.Prelude.{ℕ, zero, suc, ◌+◌, ◌-◌, ◌*◌, ◌/◌, ◌%◌, ◌≤◌, ◌<◌, ◌≡◌, cond, Option, Some, None, List, ◌⊎◌, leb, length, get_or, set, take, drop}
 use Rattle.literal.specs.Digits.{bytes, DigitTable}
 use Rattle.rows.specs.Row.{row_at}
 use Rattle.rows.specs.declared.Words.{Words}
@@ -63,9 +63,13 @@ with_next b w m (suc k) = with_row (with_next b w m k) (m + k + 1) (row_at w (m 
 abbrev pub with_rows : (b w : List ℕ) → (m n : ℕ) → List ℕ
 with_rows b w m n = with_next b w m (n - m)
 
--- n is the number of a row past row m that has the words r, or 0 where none of the rows that have a place is such a row
-pub record Followed (w : List ℕ) (m count : ℕ) (r : Words) (n : ℕ) : Type 0 where
+-- n is the number of a row past row m that has the words r
+pub record RowPast (w : List ℕ) (m count : ℕ) (r : Words) (n : ℕ) : Type 0 where
+  pub past : m < n
   pub high : n ≤ count
-  pub past : 1 ≤ n → m < n
-  pub found : 1 ≤ n → row_at w n ≡ r
-  pub absent : n ≡ 0 → (i : ℕ) → m < i → i ≤ count → i ≤ places → row_at w i ≡ r → ⊥
+  pub found : row_at w n ≡ r
+
+-- The number of a row past row m that has the words r, or None where none of the rows that have a place is such a row
+abbrev pub Followed : List ℕ → (m count : ℕ) → Words → Option ℕ → Type 0
+Followed w m count r (Some n) = RowPast w m count r n
+Followed w m count r None = (i : ℕ) → m < i → i ≤ count → i ≤ places → row_at w i ≡ r → ⊥

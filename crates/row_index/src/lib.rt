@@ -38,72 +38,40 @@ fn bucket_of(row: Words) -> usize
     ((kind + first + second + name) / 262144 % 512) as usize
 }
 
-// The row past row m that has these words, of those in a bucket, or 0.
-fn follow(rows: &[u32], index: &[u16; LENGTH], m: u32, count: u32, row: Words) -> u32
+// The row past row m that has these words, of those that have a place.
+fn follow(rows: &[u32], index: &[u16; LENGTH], m: u32, count: u32, row: Words) -> Option<u32>
     requires rows_indexed { RowsIndexed rows.now count index.now }
-    requires count_in_bounds { row_width * count ≤ length rows.now }
+    requires m_le_count { (m ≤ count) × (row_width * count ≤ length rows.now) }
     ensures { Followed rows.now m count row result }
 {
     let mut n = index[bucket_of(row)] as u32;
-    let mut left = STEPS;
-    while m < n {
+    for _ in 0..STEPS {
+        if n <= m {
+            return None;
+        }
         if alike(row_at(rows, n), row) {
-            return n;
+            return Some(n);
         }
-        if left == 0 {
-            return rows::find(rows, m, n, row);
-        }
-        left -= 1;
         n = index[HEADS + (n as usize) - 1] as u32;
     }
-    0
+    rows::find(rows, m, n.max(m), row)
 }
 
-// The row past row m that has these words, or 0. No two rows are alike.
-pub fn find(rows: &[u32], index: &[u16; LENGTH], m: u32, count: u32, row: Words) -> u32
+// The row past row m that has these words. No two rows are alike. It is put into each of its two callers, since both
+// ask it all the time.
+#[inline(always)]
+pub fn find(rows: &[u32], index: &[u16; LENGTH], m: u32, count: u32, row: Words) -> Option<u32>
     requires rows_indexed { RowsIndexed rows.now count index.now }
     requires m_le_count { (m ≤ count) × (row_width * count ≤ length rows.now) × Distinct rows.now count }
     ensures { Found rows.now m count row result }
 {
-    let n = follow(rows, index, m, count, row);
-    if n != 0 {
-        return n;
+    if let Some(n) = follow(rows, index, m, count, row) {
+        return Some(n);
     }
     if count <= PLACES {
-        return 0;
+        return None;
     }
-    if PLACES <= m {
-        return rows::find(rows, m, count, row);
-    }
-    rows::find(rows, PLACES, count, row)
-}
-
-// What `find` answers, in a function of its own for test 8: the compiler puts a function into its caller as long as it has
-// no other, and a check makes rows all the time.
-pub fn find_twin(rows: &[u32], index: &[u16; LENGTH], m: u32, count: u32, row: Words) -> u32
-    requires rows_indexed { RowsIndexed rows.now count index.now }
-    requires m_le_count { (m ≤ count) × (row_width * count ≤ length rows.now) × Distinct rows.now count }
-    ensures { Found rows.now m count row result }
-{
-    let mut n = index[bucket_of(row)] as u32;
-    let mut left = STEPS;
-    while m < n {
-        if alike(row_at(rows, n), row) {
-            return n;
-        }
-        if left == 0 {
-            return rows::find(rows, m, count, row);
-        }
-        left -= 1;
-        n = index[HEADS + (n as usize) - 1] as u32;
-    }
-    if PLACES >= count {
-        return 0;
-    }
-    if PLACES <= m {
-        return rows::find(rows, m, count, row);
-    }
-    rows::find(rows, PLACES, count, row)
+    rows::find(rows, m.max(PLACES), count, row)
 }
 
 // Row n, which has these words, comes into its bucket, if there is a place for it.
@@ -125,9 +93,7 @@ pub fn link_all(rows: &[u32], count: u32, index: &mut [u16; LENGTH])
     requires { row_width * count ≤ length rows.now }
     ensures { index.new ≡ with_rows index.old rows.now 0 count }
 {
-    let mut n = 0;
-    while n < count {
-        n += 1;
-        link(index, n, row_at(rows, n));
+    for n in 0..count {
+        link(index, n + 1, row_at(rows, n + 1));
     }
 }

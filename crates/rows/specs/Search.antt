@@ -1,5 +1,5 @@
 -- The search for a row.
-use Rattle.std.specs.Prelude.{ℕ, ◌+◌, ◌-◌, ◌*◌, ◌≤◌, ◌<◌, ◌≡◌, Bool, true, false, List, get_or}
+use Rattle.std.specs.Prelude.{ℕ, ◌+◌, ◌-◌, ◌*◌, ◌≤◌, ◌<◌, ◌≡◌, Bool, true, false, Option, Some, None, List, get_or}
 use Rattle.rows.specs.Row.{row_width, row_at}
 use Rattle.rows.specs.declared.Words.{Words}
 use Rattle.rows.specs.declared.Key.{Key}
@@ -28,18 +28,30 @@ pub record Skipped (w : List ℕ) (m count : ℕ) (key : Key) (n : ℕ) : Type 0
   pub high : n ≤ count
   pub none : NoneWith w key m n
 
--- n is the first row past row m that has the key, or 0
-pub record NextWith (w : List ℕ) (m count : ℕ) (key : Key) (n : ℕ) : Type 0 where
+-- n is the first row past row m that has the key
+pub record FirstWith (w : List ℕ) (m count : ℕ) (key : Key) (n : ℕ) : Type 0 where
+  pub past : m < n
   pub high : n ≤ count
-  pub past : 1 ≤ n → m < n
-  pub has : 1 ≤ n → HasKey w key n
-  pub first : 1 ≤ n → NoneWith w key m (n - 1)
-  pub absent : n ≡ 0 → NoneWith w key m count
+  pub has : HasKey w key n
+  pub first : NoneWith w key m (n - 1)
 
--- n is the number of the first row past row m that has the words r, or 0 where there is none
-pub record Found (w : List ℕ) (m count : ℕ) (r : Words) (n : ℕ) : Type 0 where
+-- The first row past row m that has the key, or None where none has it
+abbrev pub NextWith : List ℕ → (m count : ℕ) → Key → Option ℕ → Type 0
+NextWith w m count key (Some n) = FirstWith w m count key n
+NextWith w m count key None = NoneWith w key m count
+
+-- n is the number of the first row past row m that has the words r
+pub record FirstRow (w : List ℕ) (m count : ℕ) (r : Words) (n : ℕ) : Type 0 where
+  pub past : m < n
   pub high : n ≤ count
-  pub past : 1 ≤ n → m < n
-  pub found : 1 ≤ n → row_at w n ≡ r
+  pub found : row_at w n ≡ r
   pub first : (i : ℕ) → m < i → i < n → row_at w i ≡ r → ⊥
-  pub absent : n ≡ 0 → (i : ℕ) → m < i → i ≤ count → row_at w i ≡ r → ⊥
+
+-- None of the rows past row m, as far as row `count`, has the words r
+abbrev pub NoRow : List ℕ → (m count : ℕ) → Words → Type 0
+NoRow w m count r = (i : ℕ) → m < i → i ≤ count → row_at w i ≡ r → ⊥
+
+-- The number of the first row past row m that has the words r, or None where there is none
+abbrev pub Found : List ℕ → (m count : ℕ) → Words → Option ℕ → Type 0
+Found w m count r (Some n) = FirstRow w m count r n
+Found w m count r None = NoRow w m count r

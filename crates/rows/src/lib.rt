@@ -9,7 +9,7 @@ ghost use Rattle.rows.specs.Search.{Decides, KeyOf, NoneWith, Skipped, NextWith,
 pub const ROW_WIDTH: usize = 5;
 
 // The first four words of a row: they tell rows apart.
-#[derive(Clone, Copy)]
+#[derive(Clone, Copy, PartialEq, Eq)]
 pub struct Words {
     pub kind: u32,
     pub first: u32,
@@ -66,20 +66,12 @@ pub fn size_word_at(rows: &[u32], n: u32) -> u32
     rows[ROW_WIDTH * (n as usize) - ROW_WIDTH + 4]
 }
 
-// Whether two rows have the same words. Rows behind the same part differ most often in the second word or the name.
+// Whether two rows have the same words. Rows behind the same part differ most often in the second word or the name, so
+// these are compared first, which the derived `==` does not do.
 pub fn alike(a: Words, b: Words) -> bool
     ensures { Decides (a ≡ b) result }
 {
-    if a.second != b.second {
-        return false;
-    }
-    if a.name != b.name {
-        return false;
-    }
-    if a.first != b.first {
-        return false;
-    }
-    a.kind == b.kind
+    a.second == b.second && a.name == b.name && a.first == b.first && a.kind == b.kind
 }
 
 // The word by which a row is looked for, since few rows have it: the name, or the second word, or the first, whichever
@@ -88,20 +80,20 @@ fn key_of(row: Words) -> Key
     ensures { KeyOf row result }
 {
     if row.name != 0 {
-        return Key {
+        Key {
             place: 3,
             word: row.name,
-        };
-    }
-    if row.second != 0 {
-        return Key {
+        }
+    } else if row.second != 0 {
+        Key {
             place: 2,
             word: row.second,
-        };
-    }
-    Key {
-        place: 1,
-        word: row.first,
+        }
+    } else {
+        Key {
+            place: 1,
+            word: row.first,
+        }
     }
 }
 
@@ -111,19 +103,10 @@ fn none_of_four(rows: &[u32], n: u32, key: Key) -> bool
     ensures { Decides (NoneWith rows.now key n (n + 4)) result }
 {
     let at = ROW_WIDTH * (n as usize) + key.place;
-    if rows[at] == key.word {
-        return false;
-    }
-    if rows[at + ROW_WIDTH] == key.word {
-        return false;
-    }
-    if rows[at + ROW_WIDTH * 2] == key.word {
-        return false;
-    }
-    if rows[at + ROW_WIDTH * 3] == key.word {
-        return false;
-    }
-    true
+    rows[at] != key.word
+        && rows[at + ROW_WIDTH] != key.word
+        && rows[at + ROW_WIDTH * 2] != key.word
+        && rows[at + ROW_WIDTH * 3] != key.word
 }
 
 // Goes on from row m, four rows at a time, while none of them has the key.
@@ -132,48 +115,39 @@ fn skip_rows(rows: &[u32], m: u32, count: u32, key: Key) -> u32
     ensures { Skipped rows.now m count key result }
 {
     let mut n = m;
-    while 4 <= count - n {
-        if !none_of_four(rows, n, key) {
-            return n;
-        }
+    while 4 <= count - n && none_of_four(rows, n, key) {
         n += 4;
     }
     n
 }
 
-// The first row past row m that has the key, or 0.
-fn next_with(rows: &[u32], m: u32, count: u32, key: Key) -> u32
+// The first row past row m that has the key.
+fn next_with(rows: &[u32], m: u32, count: u32, key: Key) -> Option<u32>
     requires { (key.place < row_width) × (m ≤ count) × (row_width * count ≤ length rows.now) }
     ensures { NextWith rows.now m count key result }
 {
-    let mut n = skip_rows(rows, m, count, key);
-    while n < count {
-        let at = ROW_WIDTH * (n as usize) + key.place;
-        n += 1;
-        if rows[at] == key.word {
-            return n;
+    for n in skip_rows(rows, m, count, key)..count {
+        if rows[ROW_WIDTH * (n as usize) + key.place] == key.word {
+            return Some(n + 1);
         }
     }
-    0
+    None
 }
 
-// The first row past row m that has these words, or 0.
-pub fn find(rows: &[u32], m: u32, count: u32, row: Words) -> u32
+// The first row past row m that has these words.
+pub fn find(rows: &[u32], m: u32, count: u32, row: Words) -> Option<u32>
     requires { (m ≤ count) × (row_width * count ≤ length rows.now) }
     ensures { Found rows.now m count row result }
 {
     let key = key_of(row);
     let mut n = m;
-    loop {
-        let next = next_with(rows, n, count, key);
-        if next == 0 {
-            return 0;
-        }
+    while let Some(next) = next_with(rows, n, count, key) {
         if alike(row_at(rows, next), row) {
-            return next;
+            return Some(next);
         }
         n = next;
     }
+    None
 }
 
 // Stores the row and its size behind the first `count` rows.
@@ -182,9 +156,5 @@ pub fn store(rows: &mut [u32], count: u32, row: Words, size: u32)
     ensures { rows.new ≡ stored rows.old count row size }
 {
     let at = ROW_WIDTH * (count as usize);
-    rows[at] = row.kind;
-    rows[at + 1] = row.first;
-    rows[at + 2] = row.second;
-    rows[at + 3] = row.name;
-    rows[at + 4] = size;
+    rows[at..at + ROW_WIDTH].copy_from_slice(&[row.kind, row.first, row.second, row.name, size]);
 }

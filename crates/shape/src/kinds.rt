@@ -1,4 +1,5 @@
-// The kinds of records, in the order of document 01's list.
+// The kinds of records, in the order of document 01's list. Numbers, as they stand in the file: a class is a range of them,
+// and a number in no list is a kind too, which the layout refuses at its place.
 pub const MODULE: u32 = 1;
 
 pub const NAMES: u32 = 2;

@@ -8,7 +8,8 @@ ghost use Rattle.shape.specs.Kinds as kinds;
 ghost use Rattle.shape.specs.Shape.{shape_of, Shaped, no_field, one_field, two_fields, nothing_due, bytes_due, must_be};
 ghost use Rattle.shape.specs.Shape.{may_be, may_be_either, due_in, is_done, may_stand, state_after, is_between, allowed};
 
-// The classes of kinds, each by its lowest kind. A kind that is in no list has class 0.
+// The classes of kinds, each by its lowest kind. A kind that is in no list has class 0. Numbers, since `FineNode`, `Enters`
+// and the theorems on the layout take a class as the number of its lowest kind.
 pub const UNLISTED: u32 = 0;
 
 pub const MODULE: u32 = kinds::MODULE;
@@ -93,7 +94,7 @@ pub struct Shape {
 }
 
 // What is due in a state: free bytes, or a record of one of two classes (0: none), each with the state after it. The
-// list may end or not.
+// list may end or not. Flags and no enum, since the theorems on lists read them (`is_done`, `TakesRecords`).
 #[derive(Clone, Copy)]
 pub struct Due {
     pub free: bool,
@@ -399,23 +400,14 @@ pub fn due_in(state: Holds) -> Due
 pub fn is_done(due: Due, at: usize, end: usize) -> bool
     ensures { result ≡ is_done due at end }
 {
-    if due.free {
-        return true;
-    }
-    if due.ends {
-        return at == end;
-    }
-    false
+    due.free || (due.ends && at == end)
 }
 
 // Whether a record of a class may come next.
 pub fn may_stand(due: Due, class: u32) -> bool
     ensures { result ≡ may_stand due class }
 {
-    if class == due.class {
-        return true;
-    }
-    class == due.other
+    class == due.class || class == due.other
 }
 
 // The state of a child list after a record of a class.
@@ -423,19 +415,17 @@ pub fn state_after(due: Due, class: u32) -> Holds
     ensures { result ≡ state_after due class }
 {
     if class == due.class {
-        return due.next;
+        due.next
+    } else {
+        due.after
     }
-    due.after
 }
 
 // Whether a value lies from `low` to `high`.
 fn between(low: u32, value: u32, high: u32) -> bool
     ensures { result ≡ is_between low value high }
 {
-    if value < low {
-        return false;
-    }
-    value <= high
+    low <= value && value <= high
 }
 
 // Whether a field with a rule may hold a value, in a module with so many names.

@@ -14,9 +14,8 @@ use borrow.Author.Tests.{ltb-true, ltb-false}
 use Rattle.types.specs.Table.{IsType}
 use Rattle.record_bytes.specs.Bytes.{byte_at, word_at}
 use Rattle.names.specs.Names.{names_end, item_places, item_bytes}
-use Rattle.layout.specs.Layout.{stop_at, layout_of}
+use Rattle.layout.specs.Layout.{Good, stop_at, layout_of}
 use Rattle.trees.specs.Record.{item_tree, item_slot_places}
-use Rattle.layout.specs.declared.Layout.TheVariants.{Good}
 use Rattle.meaning.specs.Context.{ModuleContext, each, All}
 use Rattle.meaning.specs.Convert.{Slot}
 use Rattle.meaning.specs.Module.{slot_type, item_slots, item_types}

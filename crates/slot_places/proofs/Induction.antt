@@ -15,9 +15,10 @@ use Rattle.names.specs.Names.{name_count}
 use Rattle.layout.specs.Layout.{kind_at, class_at, start_at, stop_at, answer_if, and_then, list_at, record_at}
 use Rattle.node.specs.Fine.{FineRecord, FineList}
 use Rattle.trees.specs.Record.{Records, no_records, record_then, go_on, record_head_at, bytes_at, holds_free_bytes, records_at}
-use Rattle.layout.specs.declared.Layout.{Layout}
-use Rattle.layout.specs.declared.Layout.TheVariants.{Good, Fault}
-use Rattle.node.proofs.Open.{opened, split}
+use Rattle.layout.specs.Layout.{Layout, Good}
+use Rattle.layout.specs.declared.LayoutError.TheVariants.{Fault}
+use Rattle.std.proofs.Common.{Err}
+use Rattle.node.proofs.Open.{bad_good, opened, split}
 use Rattle.trees.proofs.Decode.{fine_own, records_cons, records_end}
 
 -- A state takes records, not bytes
@@ -73,15 +74,12 @@ listed : (s : List ℕ) (d at end : ℕ) (st : Holds) → is_done (due_in st) at
 unfolding list_at
 listed s d at end st e l = fuelled l.fuel l.ok
   where
-    fault : {A : Type 0} → Fault at ≡ Good → A
-    fault q = absurd (let z : ◌≡◌ {A = ℕ} 0 1 = cc in omega arith)
-
-    go : (b : Bool) (rest : Layout) → answer_if b (Fault at) (λ _. rest) ≡ Good → b ≡ false
-    go true rest q = fault q
+    go : (b : Bool) (rest : Layout) → answer_if b (Err (Fault at)) (λ _. rest) ≡ Good → b ≡ false
+    go true rest q = bad_good q
     go false rest q = refl
 
     fuelled : (m : ℕ) → list_at (record_at (name_count s) s d) s m at end st ≡ Good → eqb (due_in st).class unlisted ≡ false
-    fuelled zero q = fault q
+    fuelled zero q = bad_good q
     fuelled (suc m) q =
         go (eqb (due_in st).class unlisted)
         (and_then (record_at (name_count s) s d at end (due_in st)) (λ _. list_at (record_at (name_count s) s d) s m (stop_at s at) end (state_after (due_in st) (class_at s at))))

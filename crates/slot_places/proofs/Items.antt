@@ -13,11 +13,10 @@ use Rattle.shape.specs.declared.Holds.TheVariants.{Items}
 use Rattle.shape.proofs.ShapeLaws.{and_both}
 use Rattle.record_bytes.specs.Bytes.{word_at}
 use Rattle.names.specs.Names.{stands, chain, names_end, item_places, item_bytes, items_of}
-use Rattle.layout.specs.Layout.{stop_at, layout_of}
+use Rattle.layout.specs.Layout.{Good, stop_at, layout_of}
 use Rattle.node.specs.Fine.{FineRecord, FineList}
 use Rattle.trees.specs.Tree.{Item}
 use Rattle.trees.specs.Record.{Records, records_at, to_item, item_tree}
-use Rattle.layout.specs.declared.Layout.TheVariants.{Good}
 use Rattle.node.proofs.Open.{opened, split_may, items_list, item_chain}
 use Rattle.trees.proofs.Decode.{fine_wide}
 use Rattle.meaning.specs.TypeError.{move_place}

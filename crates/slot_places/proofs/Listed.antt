@@ -11,10 +11,9 @@ use Rattle.shape.specs.Shape.{an_item, pick, due_in}
 use Rattle.shape.specs.declared.Holds.TheVariants.{Items}
 use Rattle.names.specs.Names.{stands, chain, names_end}
 use Rattle.trees.specs.Tree.{Item}
-use Rattle.layout.specs.Layout.{stop_at, layout_of}
+use Rattle.layout.specs.Layout.{Good, stop_at, layout_of}
 use Rattle.trees.specs.Record.{to_item, item_tree_at}
 use Rattle.node.specs.Fine.{FineRecord, FineList}
-use Rattle.layout.specs.declared.Layout.TheVariants.{Good}
 use Rattle.node.proofs.Open.{split_may, opened, fine_stands, items_list, item_chain}
 use Rattle.trees.proofs.Decode.{fine_own, records_cons, records_end}
 use Rattle.walk.proofs.Sets.{both}

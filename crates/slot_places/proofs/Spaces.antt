@@ -15,10 +15,9 @@ use Rattle.shape.specs.declared.Holds.TheVariants.{Nothing, Items}
 use Rattle.shape.proofs.ShapeLaws.{and_both}
 use Rattle.record_bytes.specs.Bytes.{word_at}
 use Rattle.names.specs.Names.{stands, chain, item_places, item_bytes, names_end}
-use Rattle.layout.specs.Layout.{kind_at, class_at, start_at, stop_at, layout_of}
+use Rattle.layout.specs.Layout.{Good, kind_at, class_at, start_at, stop_at, layout_of}
 use Rattle.node.specs.Fine.{FineRecord, FineList}
 use Rattle.trees.specs.Record.{Records, no_records, record_then, is_slot, has_slot, field_count, holds_free_bytes, record_head_at, bytes_at, records_at, slot_places, item_slot_places}
-use Rattle.layout.specs.declared.Layout.TheVariants.{Good}
 use Rattle.node.proofs.Open.{opened, split_may, items_list, item_chain}
 use Rattle.meaning.specs.Context.{each, All}
 use Rattle.meaning.specs.Promise.{in_slot, item_place, item_at, item_count}

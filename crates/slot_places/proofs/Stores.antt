@@ -8,10 +8,9 @@ use lib.ListN.{length}
 use native.Mathlib.Omega.{arith}
 use Rattle.shape.specs.Shape.{an_item}
 use Rattle.names.specs.Names.{names_end, item_places, item_bytes}
-use Rattle.layout.specs.Layout.{layout_of}
+use Rattle.layout.specs.Layout.{Good, layout_of}
 use Rattle.node.specs.Fine.{FineRecord}
 use Rattle.trees.specs.Record.{item_tree, item_slot_places}
-use Rattle.layout.specs.declared.Layout.TheVariants.{Good}
 use Rattle.meaning.specs.Context.{ModuleContext, each, All}
 use Rattle.meaning.specs.Convert.{Slot}
 use Rattle.meaning.specs.Module.{item_slots}

@@ -1,5 +1,5 @@
 -- Decimal digits: how many a number has, and a loop that writes them from the last on.
-use Prim.Native.Nat.{ℕ, zero, suc, ◌+◌, ◌-◌, ◌*◌, ◌/◌, ◌%◌, ◌≤◌, ◌<◌}
+use Prim.Native.Nat.{ℕ, zero, suc, ◌+◌, ◌-◌, ◌*◌, ◌/◌, ◌%◌, ◌^◌, ◌≤◌, ◌<◌}
 use native.Mathlib.Omega.{arith}
 use mathlib.Core.Path.{◌≡◌, refl, sym, ap, ◌∙◌}
 use mathlib.Core.List.{List, [], ◌∷◌, ◌++◌, append_assoc, append-nil}
@@ -7,6 +7,8 @@ use borrow.Author.Tests.{lt-ltb, le-ltb}
 use lib.ListN.{length, length-append, set}
 use lib.Seq.{sets, length-sets}
 use native.Mathlib.Decide.{dec_le}
+use Rattle.std.specs.Prelude as code
+use Rattle.std.specs.Prelude.{IfNone, IfSome, unwrap_or}
 use Rattle.text.proofs.Writing.{set_apart}
 use Rattle.text.specs.Text.{digit, decimal_with, decimal}
 use Rattle.text.specs.Written.{Fits, Written}
@@ -24,29 +26,21 @@ pub more_digits : (d n : ℕ) → 10 ≤ n → decimal_with (suc d) n ≡ decima
 unfolding decimal_with
 more_digits d n p = rw (le-ltb n 10 p, decimal_with) refl
 
--- So many digits are counted, and `left` is what is left of n; `fuel` digits at most are left
-pub record Counting (n left digits : ℕ) : Type 0 where
-  pub fuel : ℕ
-  pub few : digits + fuel ≡ 10
-  pub small : left < power (suc fuel)
-  pub counted : length (decimal n) + 1 ≡ digits + length (decimal_with (suc fuel) left)
+-- A number from a power of ten up to the next has one digit more than the power
+digits_of : (d n k : ℕ) → k < d → 10 ^ k ≤ n → n < 10 * 10 ^ k → length (decimal_with d n) ≡ k + 1
+digits_of zero n k few low high = absurd (omega arith)
+digits_of (suc d) n zero few low high = ap length (one_digit d n (omega arith))
+digits_of (suc d) n (suc k) few low high =
+    let more = ap length (more_digits d n (omega arith)) ∙ length-append (decimal_with d (n / 10)) (digit (n % 10)) in
+    let before = digits_of d (n / 10) k (omega arith) (omega arith) (omega arith) in
+    omega arith
 
-pub counting_start : (n : ℕ) → n < 4294967296 → Counting n n 1
+-- What `checked_ilog10` gives, by one more
+pub log_digits : (n : ℕ) (log : code.Option ℕ) → IfNone log (n ≡ 0) → IfSome log (λ k. 10 ^ k ≤ n) → IfSome log (λ k. n < 10 * 10 ^ k) → IfSome log (λ k. k < 10)
+    → unwrap_or log 0 + 1 ≡ length (decimal n)
 unfolding decimal
-counting_start n p = record { fuel = 9; few = refl; small = omega arith; counted = omega arith }
-
-pub counting_on : (n left digits : ℕ) → Counting n left digits → 10 ≤ left → (digits < 10) × Counting n (left / 10) (digits + 1)
-counting_on n left digits c p = go c.fuel c.few c.small c.counted
-  where
-    go : (fuel : ℕ) → digits + fuel ≡ 10 → left < power (suc fuel) → length (decimal n) + 1 ≡ digits + length (decimal_with (suc fuel) left)
-        → (digits < 10) × Counting n (left / 10) (digits + 1)
-    go zero few small counted = absurd (omega arith)
-    go (suc fuel) few small counted =
-        let l = ap length (more_digits (suc fuel) left p) ∙ length-append (decimal_with (suc fuel) (left / 10)) (digit (left % 10)) in
-        (omega arith, record { fuel = fuel; few = omega arith; small = omega arith; counted = omega arith })
-
-pub counting_done : (n left digits : ℕ) → Counting n left digits → left < 10 → digits ≡ length (decimal n)
-counting_done n left digits c p = let l = ap length (one_digit c.fuel left p) in omega (arith, c.counted)
+log_digits n code.None none low high few = sym (ap length (one_digit 9 n (omega (arith, none))))
+log_digits n (code.Some k) none low high few = sym (digits_of 10 n k few low high)
 
 -- A number has at most 10 digits
 pub few_digits : (d n : ℕ) → length (decimal_with d n) ≤ d
@@ -138,9 +132,6 @@ putting_start n text₀ at d small long fits =
     }
 
 module _ (n : ℕ) (text₀ : List ℕ) (at end : ℕ) (text : List ℕ) (left to : ℕ) (p : Putting n text₀ at end text left to) where
-  pub putting_low : at ≤ to
-  putting_low = omega (arith, p.place)
-
   pub putting_inside : to ≤ length text
   putting_inside =
       let l = ap length p.text_is ∙ length-sets text₀ to p.behind in

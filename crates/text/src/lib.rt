@@ -15,10 +15,7 @@ pub const TOO_LONG: u32 = LONGEST + 1;
 pub fn cap(length: u64) -> u32
     ensures { result ≡ capped length }
 {
-    if length < TOO_LONG as u64 {
-        return length as u32;
-    }
-    TOO_LONG
+    length.min(TOO_LONG as u64) as u32
 }
 
 // How many bytes there are, counted no further than one past the longest.
@@ -29,16 +26,13 @@ pub fn capped_length(bytes: &[u8]) -> u32
 }
 
 // Copies bytes into a text, and returns the place behind them.
+// Text and place stay apart: a writer that holds the lent text needs a clause on whose it is in each contract, which is no
+// plainer.
 pub fn put(text: &mut [u8], at: usize, bytes: &[u8]) -> usize
     requires { Fits bytes.now text.old at }
     ensures { Written bytes.now text.old text.new at result }
 {
-    let mut i: usize = 0;
-    while i < bytes.len() {
-        let place = at + i;
-        text[place] = bytes[i];
-        i += 1;
-    }
+    text[at..at + bytes.len()].copy_from_slice(bytes);
     at + bytes.len()
 }
 
@@ -46,13 +40,7 @@ pub fn put(text: &mut [u8], at: usize, bytes: &[u8]) -> usize
 pub fn decimal_length(n: u32) -> u32
     ensures { result ≡ length (decimal n) }
 {
-    let mut digits: u32 = 1;
-    let mut left = n;
-    while 10 <= left {
-        left = left / 10;
-        digits += 1;
-    }
-    digits
+    n.checked_ilog10().unwrap_or(0) + 1
 }
 
 // Writes a number in decimal, its last digit first, and returns the place behind it.
@@ -62,11 +50,9 @@ pub fn put_decimal(text: &mut [u8], at: usize, n: u32) -> usize
 {
     let end = at + (decimal_length(n) as usize);
     let mut rest = n;
-    let mut to = end;
-    while at < to {
-        to -= 1;
-        text[to] = b'0' + ((rest % 10) as u8);
-        rest = rest / 10;
+    for place in (at..end).rev() {
+        text[place] = b'0' + ((rest % 10) as u8);
+        rest /= 10;
     }
     end
 }

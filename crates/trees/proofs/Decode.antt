@@ -50,11 +50,11 @@ fine_in s d at end end' c f p q =
     let n = name_count s in
     let due = must_be c Nothing in
     let h = headed n s d at end due f.ok in
-    let k = known n s at end due h.start h.stop h.holds h.next h.head in
+    let k = known n s at end due h.head h.is in
     let l = k.long in
     let g = head_good n s at end' due (word_at s at) refl (omega arith) (kind_at s at) (shape_at s at) refl refl (omega arith) l true (sym k.class) refl
     (is_bad n s 1 (shape_at s at).fields (shape_at s at).first (at + 16)) refl k.first
-    (is_bad n s 2 (shape_at s at).fields (shape_at s at).second (at + 20)) refl h.next k.second k.after in
+    (is_bad n s 2 (shape_at s at).fields (shape_at s at).second (at + 20)) refl h.head.next k.second k.after in
     record {
       part = record { starts = omega arith; ends = q; few = f.part.few };
       ok = record_step n s d at end' due h.deep ∙ rw (← g, ← k.starts, ← k.stops, ← k.inner) h.inner;

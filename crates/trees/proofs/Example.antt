@@ -7,14 +7,13 @@ use lib.ListN.{length, take}
 use Rattle.shape.specs.Shape.{shape_of, due_in, is_done, may_stand, state_after, allowed}
 use Rattle.record_bytes.specs.Bytes.{half_at, word_at}
 use Rattle.names.specs.Names.{stands, chain, names_end, name_places, name_bytes, names_of, name_count, same_bytes, is_among, index_of, number_of, repeat_in, repeated_name, name_refusal, item_places, item_bytes, items_of}
-use Rattle.layout.specs.Layout.{is_bad, head_at, list_at, record_at, layout_of, layout_refusal}
+use Rattle.layout.specs.Layout.{Good, is_bad, head_at, list_at, record_at, layout_of, layout_refusal}
 use Rattle.trees.specs.Tree.{location, name_type, no_value, global_declaration}
 use Rattle.trees.specs.Record.{records_with, records_at, to_type, item_tree, slot_places, item_slot_places}
 use Rattle.trees.specs.Example.{head, word, example}
-use Rattle.names.specs.declared.Repeated.TheVariants.{Nowhere}
-use Rattle.layout.specs.declared.Layout.TheVariants.{Good}
+use Rattle.std.proofs.Common.{None}
 
-good : (length example ≡ 112) × (layout_of example ≡ Good) × (name_count example ≡ 2) × (names_of example ≡ (120 ∷ []) ∷ (117 ∷ 49 ∷ 55 ∷ []) ∷ []) × (item_places example ≡ 68 ∷ []) × (repeated_name example ≡ Nowhere) × (number_of example (117 ∷ 49 ∷ 54 ∷ []) ≡ 2)
+good : (length example ≡ 112) × (layout_of example ≡ Good) × (name_count example ≡ 2) × (names_of example ≡ (120 ∷ []) ∷ (117 ∷ 49 ∷ 55 ∷ []) ∷ []) × (item_places example ≡ 68 ∷ []) × (repeated_name example ≡ None) × (number_of example (117 ∷ 49 ∷ 54 ∷ []) ≡ 2)
 unfolding half_at word_at shape_of due_in is_done may_stand state_after allowed stands chain names_end name_places name_bytes names_of name_count same_bytes is_among index_of number_of repeat_in repeated_name item_places is_bad head_at list_at record_at layout_of
 good = (refl, refl, refl, refl, refl, refl, refl)
 

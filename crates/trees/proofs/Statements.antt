@@ -16,9 +16,8 @@ use Rattle.shape.specs.declared.Holds.TheVariants.{Nothing, OneExpression, TwoEx
 use Rattle.shape.proofs.ShapeLaws.{type_kind_lem, expression_kind, compound_kind, statement_kind_lem as statement-range}
 use Rattle.record_bytes.specs.Bytes.{word_at}
 use Rattle.names.specs.Names.{name_count}
-use Rattle.layout.specs.Layout.{kind_at, shape_at, class_at, stop_at, is_bad, list_at, record_at, Part}
+use Rattle.layout.specs.Layout.{Good, kind_at, shape_at, class_at, stop_at, is_bad, list_at, record_at, Part}
 use Rattle.node.specs.Fine.{FineRecord, FineList}
-use Rattle.layout.specs.declared.Layout.TheVariants.{Good}
 use Rattle.trees.specs.Tree.{block, expression, variable_declaration, assignment, compound_assignment, return, loop, while, break, «if», if_else, inline_assembly, no_statements, statement_then, no_value, assigned, compounded}
 use Rattle.trees.specs.Tree.{Location, Expression, Statement}
 use Rattle.trees.specs.Record.{Records, no_records, location_at, record_head_of, holds_free_bytes, go_on, record_with, records_at, next}
@@ -85,7 +84,7 @@ may_be_good s d at end c state f =
     let n = name_count s in
     let due = may_be c state in
     let h = headed n s d at end (must_be c Nothing) f.ok in
-    let k = known n s at end (must_be c Nothing) h.start h.stop h.holds h.next h.head in
+    let k = known n s at end (must_be c Nothing) h.head h.is in
     let l = k.long in
     let r = k.room in
     let g = head_good n s at end due (word_at s at) refl (omega arith) (kind_at s at) (shape_at s at) refl refl r l true (sym k.class) refl

@@ -4,7 +4,7 @@ use mathlib.Core.Path.{◌≡◌, refl}
 use mathlib.Core.List.{List}
 use lib.ListN.{get_or, replicate}
 use Rattle.names.specs.Names.{built_ins, repeated_name}
-use Rattle.names.specs.declared.Repeated.TheVariants.{Nowhere}
+use Rattle.std.proofs.Common.{None}
 use Rattle.meaning.specs.Context.{context, blank}
 use Rattle.meaning.specs.Module.{empty_context}
 use Rattle.meaning.specs.Promise.{built_ins_of}
@@ -34,5 +34,5 @@ module _ (input work output errors rows : List ℕ) {index : List ℕ} (st : Sta
       held name (suc (suc (suc (suc n)))) = zero_words (word_place name (suc (suc (suc (suc n)))))
 
   -- so they hold the context that pass 1 begins with
-  pub empty_words : repeated_name input ≡ Nowhere → Resolves input (built_ins input) (lent work output errors rows index st) (context (empty_context (built_ins_of input)) blank)
+  pub empty_words : repeated_name input ≡ None → Resolves input (built_ins input) (lent work output errors rows index st) (context (empty_context (built_ins_of input)) blank)
   empty_words once = record { scope = no_words; built_ins = λ name known. built_ins_lem input once name known }

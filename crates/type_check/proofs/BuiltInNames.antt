@@ -9,13 +9,13 @@ use lib.ListN.{get_or}
 use borrow.Author.Tests.{eqb-true, eq-eqb}
 use Rattle.types.specs.Ty.{u16, i16, bool, string}
 use Rattle.names.specs.Names.{names_of, name_count, same_bytes, number_of, built_ins, repeated_name}
-use Rattle.names.specs.declared.Repeated.TheVariants.{Nowhere}
+use Rattle.std.proofs.Common.{None}
 use Rattle.names.proofs.NameLaws.{same_refl, same_true}
 use Rattle.names.proofs.NumberLaws.{named, number_of_name}
 use Rattle.meaning.specs.Promise.{built_in_types}
 use Rattle.convert.specs.Convert.{primitive_of}
 
-module _ (s : List ℕ) (once : repeated_name s ≡ Nowhere) (i : ℕ) (known : i < name_count s) where
+module _ (s : List ℕ) (once : repeated_name s ≡ None) (i : ℕ) (known : i < name_count s) where
   -- Where no name is repeated, a name has a text exactly if its number is that of the text
   same_number : (t : List ℕ) → same_bytes (get_or (names_of s) i []) t ≡ eqb i (number_of s t)
   same_number t = go (same_bytes (get_or (names_of s) i []) t) (eqb i (number_of s t)) refl refl

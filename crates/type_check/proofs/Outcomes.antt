@@ -5,7 +5,7 @@ use mathlib.Core.Bool.{Bool, true, false}
 use mathlib.Core.List.{List, [], ◌∷◌, ◌++◌}
 use native.Mathlib.Omega.{arith}
 use lib.Dec.{ltb}
-use lib.ListN.{length, drop, replicate, length-append, length-drop}
+use lib.ListN.{length, drop, replicate, length-append, length-drop, length-replicate}
 use lib.Seq.{drop-append_seam}
 use borrow.Author.Tests.{lt-ltb, le-ltb}
 use Rattle.fallible.specs.Outcome.{Outcome, refused, accepted, first_refusing, outcome_after}
@@ -45,38 +45,42 @@ from_copy e a =
     }
 
 -- Before the passes: the working words are 0, the output is a copy of the input
-module _ (output work : List ℕ) {input output₁ work₁ : List ℕ} {words : ℕ} (passed : Passed input (length output) (length work)) (width : length work ≡ work_width * name_count input)
-    (lent : words ≡ length work) (emptied : work₁ ≡ cleared words work) (copied : output₁ ≡ input ++ drop (length input) output) where
+module _ (output work : List ℕ) {input copy work₁ : List ℕ} (passed : Passed input (length output) (length work)) (width : length work ≡ work_width * name_count input)
+    (emptied : work₁ ≡ replicate (length work) 0) (copied : copy ≡ input) where
+  abbrev output₁ : List ℕ
+  output₁ = copy ++ drop (length input) output
+
   same_past : drop (length input) output₁ ≡ drop (length input) output
-  same_past = ap (drop (length input)) copied ∙ drop-append_seam input (drop (length input) output)
+  same_past = ap (λ (x : List ℕ). drop (length input) (x ++ drop (length input) output)) copied ∙ drop-append_seam input (drop (length input) output)
 
   long₁ : length output₁ ≡ length output
   long₁ =
       let a = length-drop (length input) output in
       let b = passed.long in
-      ap length copied ∙ length-append input (drop (length input) output) ∙ omega arith
+      ap (λ (x : List ℕ). length (x ++ drop (length input) output)) copied ∙ length-append input (drop (length input) output) ∙ omega arith
 
   wide₁ : length work₁ ≡ length work
-  wide₁ = ap length emptied ∙ cleared_long words work (omega arith)
+  wide₁ = ap length emptied ∙ length-replicate (length work) 0
 
   pub passes_asked : Passed input (length output₁) (length work₁) × ((output₁ ≡ input ++ drop (length input) output₁) × (work₁ ≡ replicate (work_width * name_count input) 0))
   passes_asked =
       let a = passed.long in
       let b = passed.wide in (
         record { layout = passed.layout; names = passed.names; long = omega (arith, long₁); wide = omega (arith, wide₁) },
-        (copied ∙ ap (λ (x : List ℕ). input ++ x) (sym same_past), emptied ∙ ap (λ (k : ℕ). cleared k work) lent ∙ cleared_all work ∙ ap (λ (k : ℕ). replicate k 0) width),
+        ((λ i. copied i ++ sym same_past i), emptied ∙ ap (λ (k : ℕ). replicate k 0) width),
       )
 
 -- After them
-module _ (output work : List ℕ) {input rows errors output₁ work₁ output₂ rows₂ errors₂ work₂ work₃ : List ℕ} {words : ℕ} {r : State}
-    (passed : Passed input (length output) (length work)) (width : length work ≡ work_width * name_count input) (lent : words ≡ length work)
-    (emptied : work₁ ≡ cleared words work) (copied : output₁ ≡ input ++ drop (length input) output)
-    (passes : BothPasses input (buffers output₁ rows errors work₁) (buffers output₂ rows₂ errors₂ work₂) r) (last : work₃ ≡ cleared words work₂) where
-  past₁ : drop (length input) output₁ ≡ drop (length input) output
-  past₁ = same_past output work passed width lent emptied copied
+module _ (output work : List ℕ) {input rows errors copy work₁ output₂ rows₂ errors₂ work₂ work₃ : List ℕ} {r : State}
+    (passed : Passed input (length output) (length work)) (width : length work ≡ work_width * name_count input)
+    (emptied : work₁ ≡ replicate (length work) 0) (copied : copy ≡ input)
+    (passes : BothPasses input (buffers (copy ++ drop (length input) output) rows errors work₁) (buffers output₂ rows₂ errors₂ work₂) r)
+    (last : work₃ ≡ replicate (length work₂) 0) where
+  past₁ : drop (length input) (copy ++ drop (length input) output) ≡ drop (length input) output
+  past₁ = same_past output work passed width emptied copied
 
   long₂ : length output₂ ≡ length output
-  long₂ = ap (λ l. l.output) passes.lengths ∙ long₁ output work passed width lent emptied copied
+  long₂ = ap (λ l. l.output) passes.lengths ∙ long₁ output work passed width emptied copied
 
   rows_long : length rows₂ ≡ length rows
   rows_long = ap (λ l. l.rows) passes.lengths
@@ -85,19 +89,18 @@ module _ (output work : List ℕ) {input rows errors output₁ work₁ output₂
   errors_long = ap (λ l. l.errors) passes.lengths
 
   work_long : length work₂ ≡ length work
-  work_long = ap (λ l. l.work) passes.lengths ∙ wide₁ output work passed width lent emptied copied
+  work_long = ap (λ l. l.work) passes.lengths ∙ wide₁ output work passed width emptied copied
 
   pub room_left : length input ≤ length output₂
   room_left = let a = passed.long in omega (arith, long₂)
 
   words_cleared : work₃ ≡ cleared (work_width * length (names_of input)) work
   words_cleared =
-      let n : words ≡ length work₂ = omega (arith, work_long) in
       let m : length work ≡ work_width * length (names_of input) = width ∙ ap (λ (k : ℕ). work_width * k) (sym (names_counted input)) in
-      last ∙ ap (λ (k : ℕ). cleared k work₂) n ∙ cleared_same work₂ work work_long ∙ ap (λ (k : ℕ). cleared k work) m
+      last ∙ sym (cleared_all work₂) ∙ cleared_same work₂ work work_long ∙ ap (λ (k : ℕ). cleared k work) m
 
   work₃_long : length work₃ ≡ length work
-  work₃_long = ap length last ∙ cleared_long words work₂ (omega (arith, work_long)) ∙ work_long
+  work₃_long = ap length last ∙ length-replicate (length work₂) 0 ∙ work_long
 
   -- Refused: everything lent for the answer is 0
   module _ {output₃ rows₃ errors₃ : List ℕ} (o : output₃ ≡ cleared (length input) output₂) (w : rows₃ ≡ cleared (length rows₂) rows₂)

@@ -4,6 +4,7 @@ use mathlib.Core.Path.{◌≡◌, refl, sym, ◌∙◌, ap, subst}
 use mathlib.Core.Bool.{Bool, true, false, ◌||◌}
 use mathlib.Core.List.{List, [], ◌∷◌, ◌++◌}
 use mathlib.Core.Option.{Option, none, some}
+use Rattle.std.specs.Prelude.{Result, Ok, Err}
 use native.Mathlib.Omega.{arith}
 use lib.Dec.{ltb}
 use lib.ListN.{length, take, drop, replicate}
@@ -11,16 +12,14 @@ use lib.Seq.{length-take-le, length_front}
 use Rattle.types.specs.Table.{row_width}
 use Rattle.fallible.specs.Errors.{error_width}
 use Rattle.fallible.specs.Outcome.{Outcome, refused, accepted, or_next, first_refusing, outcome_after}
-use Rattle.names.specs.Names.{names_of, name_count, repeated_name, name_refusal, name_test}
-use Rattle.layout.specs.Layout.{layout_of, layout_refusal, layout_tests}
-use Rattle.layout.specs.declared.Layout.{Layout}
-use Rattle.layout.specs.declared.Layout.TheVariants.{Good, TooLong, Fault, TooDeep}
-use Rattle.names.specs.declared.Repeated.{Repeated}
-use Rattle.names.specs.declared.Repeated.TheVariants.{Nowhere, At}
+use Rattle.names.specs.Names.{names_of, name_count, Repeated, repeated_name, name_refusal, name_test}
+use Rattle.layout.specs.Layout.{Layout, layout_of, layout_refusal, layout_tests}
+use Rattle.layout.specs.declared.LayoutError.TheVariants.{TooLong, Fault, TooDeep}
+use Rattle.std.proofs.Common.{Some, None, Ok, Err}
 use Rattle.meaning.specs.Promise.{work_width, Counts, counts_of, Buffers, Lengths, lengths_of, refuse_if, answer_of, cleared, Accepted, Checked}
-use Rattle.module_tests.specs.declared.Refusal.{Refusal}
-use Rattle.module_tests.specs.declared.Refusal.TheVariants.{Never, Because}
-use Rattle.module_tests.specs.Refusal.{refusal_of, module_refusal}
+use Rattle.refusal.specs.declared.Refusal.{Refusal}
+use Rattle.refusal.specs.Refusal.{number_of, place_of, refusal_of}
+use Rattle.module_tests.specs.Refusal.{module_refusal}
 use Rattle.type_check.specs.Post.{buffers, loan_refusal, early_refusal, late_outcome, Passed, Ends}
 use Rattle.meaning.proofs.Cleared.{cleared_all}
 use Rattle.type_check.proofs.Refusals.{names_counted, all_passed}
@@ -61,15 +60,15 @@ low_if false = tt
 
 low_layout : (l : Layout) → Low (layout_refusal l)
 unfolding layout_refusal
-low_layout Good = tt
-low_layout TooLong = omega arith
-low_layout (Fault p) = omega arith
-low_layout (TooDeep p) = omega arith
+low_layout (Ok u) = tt
+low_layout (Err TooLong) = omega arith
+low_layout (Err (Fault p)) = omega arith
+low_layout (Err (TooDeep p)) = omega arith
 
 low_name : (r : Repeated) → Low (name_refusal r)
 unfolding name_refusal
-low_name Nowhere = tt
-low_name (At p) = omega arith
+low_name None = tt
+low_name (Some p) = omega arith
 
 pub low_module : (input : List ℕ) → Low (module_refusal input)
 low_module input = low_next (layout_tests input) (name_test input) (low_layout (layout_of input)) (low_name (repeated_name input))
@@ -77,12 +76,12 @@ low_module input = low_next (layout_tests input) (name_test input) (low_layout (
 low_early : (input : List ℕ) (o w : ℕ) → Low (early_refusal input o w)
 low_early input o w = low_next (module_refusal input) (loan_refusal input o w) (low_module input) (low_if (ltb o (length input) || ltb w (work_width * length (names_of input))))
 
-module _ (input output rows errors work : List ℕ) {r : Refusal} (told : refusal_of r ≡ early_refusal input (length output) (length work)) where
+module _ (input output rows errors work : List ℕ) {A : Type 0} {r : Result A Refusal} (told : refusal_of r ≡ early_refusal input (length output) (length work)) where
   -- Turned back: all is left as it was
-  pub turned_back_lem : {n p : ℕ} → r ≡ Because n p → Checked input (buffers output rows errors work) (buffers output rows errors work) (refused n p)
-  turned_back_lem {n} {p} e =
-      let early : some (n, p) ≡ early_refusal input (length output) (length work) = ap refusal_of (sym e) ∙ told in
-      let small : n ≤ 5 = subst Low (sym early) (low_early input (length output) (length work)) in
+  pub turned_back_lem : {cause : Refusal} → r ≡ Err cause → Checked input (buffers output rows errors work) (buffers output rows errors work) (refused (number_of cause) (place_of cause))
+  turned_back_lem {cause} e =
+      let early : some (number_of cause, place_of cause) ≡ early_refusal input (length output) (length work) = ap refusal_of (sym e) ∙ told in
+      let small : number_of cause ≤ 5 = subst Low (sym early) (low_early input (length output) (length work)) in
       record {
         answers = ap (λ x. outcome_after x (late_outcome input (lengths_of (buffers output rows errors work)))) early ∙ sym (answer_by input (lengths_of (buffers output rows errors work)));
         lengths = refl;
@@ -91,7 +90,7 @@ module _ (input output rows errors work : List ℕ) {r : Refusal} (told : refusa
         filled = λ counts f. absurd (refused_never f);
       }
 
-  module _ (never : r ≡ Never) where
+  module _ {a : A} (never : r ≡ Ok a) where
     early_none : none ≡ early_refusal input (length output) (length work)
     early_none = ap refusal_of (sym never) ∙ told
 

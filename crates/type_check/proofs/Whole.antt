@@ -7,10 +7,9 @@ use native.Mathlib.Omega.{arith}
 use lib.ListN.{length}
 use Rattle.shape.specs.Shape.{an_item}
 use Rattle.names.specs.Names.{names_end, item_places, built_ins}
-use Rattle.layout.specs.Layout.{layout_of}
+use Rattle.layout.specs.Layout.{Good, layout_of}
 use Rattle.node.specs.Fine.{FineRecord}
 use Rattle.trees.specs.Tree.{Item}
-use Rattle.layout.specs.declared.Layout.TheVariants.{Good}
 use Rattle.meaning.specs.Context.{TypeMap, ModuleContext, context, blank, each, All}
 use Rattle.meaning.specs.Convert.{Slot}
 use Rattle.meaning.specs.Module.{slot_type, declarations, declare_all, empty_context, types_in1, item_errors, item_slots, item_types, module_errors, types_met}

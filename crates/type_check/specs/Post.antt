@@ -1,5 +1,5 @@
 -- What the functions of the entry promise; the entry's own promise is `Checked` (crate meaning).
-use Rattle.std.specs.Prelude.{ℕ, ◌*◌, ◌≤◌, ◌≡◌, false, ◌||◌, List, [], ◌∷◌, ltb, length, drop}
+use Rattle.std.specs.Prelude.{ℕ, ◌*◌, ◌≤◌, ◌≡◌, false, ◌||◌, List, [], ◌∷◌, Result, Ok, Err, ltb, length, drop}
 use Rattle.std.proofs.Math.Option.{Option}
 use Rattle.std.specs.Borrow.{MutBor}
 use denote.Triple.Both.{Both}
@@ -8,15 +8,15 @@ use Rattle.types.specs.Table.{row_width}
 use Rattle.fallible.specs.Outcome.{Outcome, refused, accepted, or_next, first_refusing, outcome_after}
 use Rattle.fallible.specs.Errors.{error_width, room}
 use Rattle.names.specs.Names.{names_of, name_count, repeated_name}
-use Rattle.layout.specs.Layout.{layout_of}
-use Rattle.layout.specs.declared.Layout.TheVariants.{Good}
-use Rattle.names.specs.declared.Repeated.TheVariants.{Nowhere}
+use Rattle.layout.specs.Layout.{Good, layout_of}
+use Rattle.std.specs.Prelude.{None}
 use Rattle.module_tests.specs.Refusal.{module_refusal}
 use Rattle.meaning.specs.Promise.{work_width, Counts, counts_of, Buffers, Lengths, lengths_of, refuse_if}
 use Rattle.meaning.specs.Promise.{cleared, wiped, Accepted}
 use Rattle.walk.specs.declared.State.{State}
-use Rattle.type_check.specs.declared.Answer.{Answer}
-use Rattle.type_check.specs.declared.Answer.TheVariants.{Accepted as Counted, Refused}
+use Rattle.refusal.specs.declared.Refusal.{Refusal}
+use Rattle.refusal.specs.Refusal.{number_of, place_of}
+use Rattle.type_check.specs.declared.Counts.{Counts as Counted}
 
 -- The four buffers that the entry is lent
 abbrev pub buffers : (output rows errors work : List ℕ) → Buffers
@@ -31,9 +31,9 @@ abbrev pub buffers_after : (output rows errors work : Both (MutBor (List ℕ)) (
 buffers_after output rows errors work = buffers (final output) (final rows) (final errors) (final work)
 
 -- The number of the refusal and its place, or the counts, of each case of the answer
-abbrev pub outcome_of : Answer → Outcome Counts
-outcome_of (Counted rows errors) = accepted (record { rows = rows; errors = errors })
-outcome_of (Refused number place) = refused number place
+abbrev pub outcome_of : Result Counted Refusal → Outcome Counts
+outcome_of (Ok counts) = accepted (record { rows = counts.rows; errors = counts.errors })
+outcome_of (Err cause) = refused (number_of cause) (place_of cause)
 
 -- Test 5
 abbrev pub loan_refusal : (input : List ℕ) → (output work : ℕ) → Option (ℕ × ℕ)
@@ -46,7 +46,7 @@ early_refusal input output work = or_next (module_refusal input) (loan_refusal i
 -- They are passed, with an output and working words of these lengths
 pub record Passed (input : List ℕ) (output work : ℕ) : Type 0 where
   pub layout : layout_of input ≡ Good
-  pub names : repeated_name input ≡ Nowhere
+  pub names : repeated_name input ≡ None
   pub long : length input ≤ output
   pub wide : work_width * name_count input ≤ work
 

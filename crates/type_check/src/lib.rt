@@ -4,7 +4,7 @@
 
 ghost use Rattle.std.specs.Prelude.{◌≡◌, true, false, ◌≤◌, ◌*◌, ◌++◌, length, replicate, drop};
 ghost use Rattle.names.specs.Names.{name_count};
-ghost use Rattle.module_tests.specs.Refusal.{refusal_of};
+ghost use Rattle.refusal.specs.Refusal.{refusal_of};
 ghost use Rattle.meaning.specs.Promise.{Checked, cleared, work_width};
 ghost use Rattle.type_check.specs.Post.{buffers_before, buffers_after, outcome_of};
 ghost use Rattle.type_check.specs.Post.{loan_refusal, early_refusal, Passed, BothPasses, Ends};
@@ -13,86 +13,39 @@ use declare::declare_items;
 use fallible::ERROR_WIDTH;
 use items::type_check_items;
 use literal::digits::put_digits;
-use module_tests::{Refusal, module_refusal};
+use module_tests::module_refusal;
 use names::{built_ins, name_count};
 use node::{Nodes, items_start};
-use walk::{State, WORK_WIDTH};
+use refusal::Refusal;
+use walk::{State, WORK_WIDTH, Walk};
 
-// The answer: how many rows and errors there are, or why the module is turned back and where.
-#[derive(Clone, Copy)]
-pub enum Answer {
-    Accepted { rows: u32, errors: usize },
-    Refused { number: u32, place: usize },
+// How many rows and errors an accepted module has: the `Counts` of crate meaning, as a value.
+#[derive(Clone, Copy, Debug, PartialEq, Eq)]
+pub struct Counts {
+    pub rows: u32,
+    pub errors: usize,
 }
 
 // How many levels are left for an item.
 const ITEM_DEPTH: usize = 63;
 
 // Test 5: the output is shorter than the input, or there are too few working words.
-fn loan_refusal(input: &[u8], output: usize, work: usize) -> Refusal
+fn loan_refusal(input: &[u8], output: usize, work: usize) -> Result<(), Refusal>
     ensures { refusal_of result ≡ loan_refusal input.now output work }
 {
-    let names = name_count(input);
-    if output < input.len() {
-        return Refusal::Because {
-            number: 5,
-            place: 0,
-        };
+    let words = WORK_WIDTH * (name_count(input) as usize);
+    if output < input.len() || work < words {
+        return Err(Refusal::ShortLoan);
     }
-    if work < WORK_WIDTH * (names as usize) {
-        return Refusal::Because {
-            number: 5,
-            place: 0,
-        };
-    }
-    Refusal::Never
+    Ok(())
 }
 
 // Tests 1 to 5: why the module is turned back before anything is written.
-fn early_refusal(input: &[u8], output: usize, work: usize) -> Refusal
+fn early_refusal(input: &[u8], output: usize, work: usize) -> Result<(), Refusal>
     ensures { refusal_of result ≡ early_refusal input.now output work }
 {
-    let refusal = module_refusal(input);
-    match refusal {
-        Refusal::Never => loan_refusal(input, output, work),
-        Refusal::Because { number, place } => Refusal::Because { number, place },
-    }
-}
-
-// Sets the first `count` words to 0.
-fn clear_words(words: &mut [u32], count: usize)
-    requires { count ≤ length words.old }
-    ensures { words.new ≡ cleared count words.old }
-{
-    let mut i: usize = 0;
-    while i < count {
-        words[i] = 0;
-        i += 1;
-    }
-}
-
-// Sets the first `count` bytes to 0.
-fn clear_bytes(bytes: &mut [u8], count: usize)
-    requires { count ≤ length bytes.old }
-    ensures { bytes.new ≡ cleared count bytes.old }
-{
-    let mut i: usize = 0;
-    while i < count {
-        bytes[i] = 0;
-        i += 1;
-    }
-}
-
-// The output begins as a copy of the input.
-fn copy_bytes(input: &[u8], output: &mut [u8])
-    requires { length input.now ≤ length output.old }
-    ensures { output.new ≡ input.now ++ drop (length input.now) output.old }
-{
-    let mut i: usize = 0;
-    while i < input.len() {
-        output[i] = input[i];
-        i += 1;
-    }
+    module_refusal(input)?;
+    loan_refusal(input, output, work)
 }
 
 // Both passes, with working words that are all 0. Where not even the fixed rows find room, nothing is done.
@@ -120,20 +73,27 @@ fn both_passes(
     types::put_fixed_rows(rows);
     let mut index = [0u16; row_index::LENGTH];
     put_digits(&mut index[row_index::DIGITS..]);
-    let index = &mut index;
-    row_index::link_all(rows, types::FIXED_COUNT, index);
+    row_index::link_all(rows, types::FIXED_COUNT, &mut index);
     let names = built_ins(input);
-    let from = items_start(input);
-    let end = input.len();
-    let depth = ITEM_DEPTH;
-    let list = Nodes { from, end, depth };
-    let start = State {
-        errors: 0,
-        rows: types::FIXED_COUNT,
-        full: false,
+    let list = Nodes {
+        from: items_start(input),
+        end: input.len(),
+        depth: ITEM_DEPTH,
     };
-    let next = declare_items(input, names, work, list, output, errors, rows, index, start);
-    type_check_items(input, names, work, list, output, errors, rows, index, next)
+    let mut walk = Walk {
+        output,
+        errors,
+        rows,
+        index: &mut index,
+        state: State {
+            errors: 0,
+            rows: types::FIXED_COUNT,
+            full: false,
+        },
+    };
+    declare_items(input, names, work, list, &mut walk);
+    type_check_items(input, names, work, list, &mut walk);
+    walk.state
 }
 
 // Refusals 6 and 7 leave zeros.
@@ -143,51 +103,43 @@ fn wipe(count: usize, output: &mut [u8], rows: &mut [u32], errors: &mut [u32])
     ensures rows_value { rows.new ≡ cleared (length rows.old) rows.old }
     ensures errors_value { errors.new ≡ cleared (length errors.old) errors.old }
 {
-    clear_bytes(output, count);
-    let row_words = rows.len();
-    clear_words(rows, row_words);
-    let error_words = errors.len();
-    clear_words(errors, error_words);
+    output[..count].fill(0);
+    rows.fill(0);
+    errors.fill(0);
 }
 
-// Tests 6 and 7, after both passes.
+// Tests 6 and 7, after both passes. The output begins as a copy of the input, and the working words are 0 before and
+// after.
 fn run(
     input: &[u8],
     output: &mut [u8],
     rows: &mut [u32],
     errors: &mut [u32],
     work: &mut [u32],
-) -> Answer
+) -> Result<Counts, Refusal>
     requires passed { Passed input.now (length output.old) (length work.old) }
     requires work_len { length work.old ≡ work_width * name_count input.now }
     ensures { Ends input.now
         (buffers_before output rows errors work)
         (buffers_after output rows errors work) (outcome_of result) }
 {
-    let words = work.len();
-    clear_words(work, words);
-    copy_bytes(input, output);
+    work.fill(0);
+    output[..input.len()].copy_from_slice(input);
     let last = both_passes(input, output, rows, errors, work);
-    clear_words(work, words);
+    work.fill(0);
     if last.full {
         wipe(input.len(), output, rows, errors);
-        return Answer::Refused {
-            number: 6,
-            place: 0,
-        };
+        return Err(Refusal::TooFewRows);
     }
     let room = errors.len() / ERROR_WIDTH;
     if room < last.errors {
         wipe(input.len(), output, rows, errors);
-        return Answer::Refused {
-            number: 7,
-            place: 0,
-        };
+        return Err(Refusal::TooFewErrors);
     }
-    Answer::Accepted {
+    Ok(Counts {
         rows: last.rows,
         errors: last.errors,
-    }
+    })
 }
 
 // Checks a module. The output gets the module with its slots filled; the rows, the errors and the counts are the
@@ -198,18 +150,12 @@ pub fn type_check_module(
     rows: &mut [u32],
     errors: &mut [u32],
     work: &mut [u32],
-) -> Answer
+) -> Result<Counts, Refusal>
     ensures { Checked input.now
         (buffers_before output rows errors work)
         (buffers_after output rows errors work) (outcome_of result) }
 {
-    let refusal = early_refusal(input, output.len(), work.len());
-    match refusal {
-        Refusal::Because { number, place } => Answer::Refused { number, place },
-        Refusal::Never => {
-            let names = name_count(input);
-            let words = WORK_WIDTH * (names as usize);
-            run(input, output, rows, errors, &mut work[..words])
-        }
-    }
+    early_refusal(input, output.len(), work.len())?;
+    let words = WORK_WIDTH * (name_count(input) as usize);
+    run(input, output, rows, errors, &mut work[..words])
 }

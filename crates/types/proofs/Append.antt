@@ -13,7 +13,8 @@ use Rattle.row_index.specs.Index.{with_row, with_rows}
 use Rattle.row_index.proofs.Additions.{rows_none, rows_more}
 use Rattle.types.specs.WordSize.{size_word}
 use Rattle.types.specs.Table.{row_width, Words, words, row_at, size_word_at, build, unfolded, has_type, Table, RowOk, Extends}
-use Rattle.types.specs.Post.{Added, Found, highest_part, stored}
+use Rattle.rows.specs.Search.{NoRow}
+use Rattle.types.specs.Post.{Added, highest_part, stored}
 use Rattle.types.proofs.Laws.{unfolded_row, build_below, words_injective, first_at_most, second_at_most}
 use Rattle.types.proofs.Grow.{Kept, kept_row, kept_unfolded, kept_ok, kept_rows}
 use Rattle.types.proofs.Rows.{Rows, rows_add, table_rows}
@@ -149,10 +150,10 @@ highest_low w c r ok =
     (highest r)
 
 -- So a search past them finds every row of these words
-pub none_like : (w : List ℕ) (c : ℕ) → ((i : ℕ) → i < c → RowOk w i (row_at w (i + 1))) → (r : Words) (n : ℕ) → Found w (highest_part r) c r n → n ≡ 0
+pub none_like : (w : List ℕ) (c : ℕ) → ((i : ℕ) → i < c → RowOk w i (row_at w (i + 1))) → (r : Words) → NoRow w (highest_part r) c r
     → (i : ℕ) → 1 ≤ i → i ≤ c → row_at w i ≡ r → ⊥
-none_like w c ok r n f z i l h q =
+none_like w c ok r none i l h q =
     let e : i - 1 + 1 ≡ i = omega arith in
     let own : RowOk w (i - 1) r = subst (RowOk w (i - 1)) (ap (row_at w) e ∙ q) (ok (i - 1) (omega arith)) in
     let p = highest_low w (i - 1) r own in
-    f.absent z i (omega arith) h q
+    none i (omega arith) h q

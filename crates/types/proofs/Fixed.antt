@@ -1,16 +1,15 @@
 -- The rows that every table begins with.
-use Prim.Native.Nat.{ℕ, zero, suc, ◌+◌, ◌≤◌, ◌<◌}
+use Prim.Native.Nat.{ℕ, zero, suc, ◌+◌, ◌-◌, ◌≤◌, ◌<◌}
 use mathlib.Core.Path.{◌≡◌, refl, sym, ap, ◌∙◌, subst}
-use mathlib.Core.List.{List}
+use mathlib.Core.List.{List, ◌++◌}
 use mathlib.Core.Bool.{cond, or_assoc, or-false}
 use mathlib.Core.Logic.{inl, inr, ⊎_elim}
 use native.Mathlib.Omega.{arith}
 use native.Mathlib.Nat.{le-suc_iff}
-use borrow.Author.Count.{below_none, below_more}
 use borrow.Author.Tests.{lt-ltb, ne_eqb}
 use lib.Dec.{eqb}
-use lib.ListN.{length, get_or, set, length-set}
-use lib.Seq.{get_or-set_same, get_or-set_other}
+use lib.ListN.{length, get_or, drop, length-append, length-drop, get_or-append}
+use Rattle.std.proofs.lemmas.List.{get_or-drop, get_or-append_right}
 use Rattle.types.specs.Ty.{Ty, member, fixed_types, unknown, void, bool, u16, i16, pointer, string}
 use Rattle.types.specs.WordSize.{to_ir_type, ir_word_size, size_word}
 use Rattle.types.specs.Table.{Words, words, row_at, size_word_at, fixed_length, fixed_words, unfolded, up_to, has_type, Table, RowOk, Sizes, IsType}
@@ -153,33 +152,22 @@ module _ (w : List ℕ) (count : ℕ) (t : Table w count) where
   unfolding unfolded up_to
   string_row = fixed_row 7 (omega arith)
 
--- The fixed words copied to the front of w, as far as i
-pub record Copied (w : List ℕ) (i : ℕ) (w' : List ℕ) : Type 0 where
-  pub long : length w' ≡ length w
-  pub done : (k : ℕ) → k < i → get_or w' k 0 ≡ get_or fixed_words k 0
-  pub past : (k : ℕ) → i ≤ k → get_or w' k 0 ≡ get_or w k 0
+-- The fixed words copied to the front of w
+pub stored_front : (w front : List ℕ) → fixed_length ≤ length w → front ≡ fixed_words → FixedStored w (front ++ drop fixed_length w)
+stored_front w front room e =
+    let kept : Kept fixed_words (front ++ drop fixed_length w) 7 = λ k b. rw e (get_or-append fixed_words (drop fixed_length w) 0 k (omega arith)) in
+    record {
+      table = fixed_table (front ++ drop fixed_length w) (omega (arith, long)) kept;
+      types = fixed_types_lem (front ++ drop fixed_length w) kept;
+      long = long;
+      past = λ i h.
+          get_or-append_right front (drop fixed_length w) fixed_length i 0 fits h
+          ∙ get_or-drop fixed_length w (i - fixed_length) 0
+          ∙ (let same : fixed_length + (i - fixed_length) ≡ i = omega arith in ap (λ (n : ℕ). get_or w n 0) same);
+    }
+  where
+    fits : length front ≡ fixed_length
+    fits = ap length e
 
-pub copied_none : (w : List ℕ) → Copied w 0 w
-copied_none w = record { long = refl; done = below_none _; past = λ k h. refl }
-
-module _ (w : List ℕ) (i : ℕ) (w' : List ℕ) (s : Copied w i w') where
-  pub copied_more : i < length w' → Copied w (i + 1) (set w' i (get_or fixed_words i 0))
-  copied_more l =
-      record {
-        long = length-set w' i (get_or fixed_words i 0) ∙ s.long;
-        done =
-            below_more _ i
-            (λ k h. let ne : k ≡ i → ⊥ = omega arith in get_or-set_other w' i k (get_or fixed_words i 0) 0 ne ∙ s.done k h)
-            (get_or-set_same w' i (get_or fixed_words i 0) 0 l);
-        past = λ k h. let ne : k ≡ i → ⊥ = omega arith in get_or-set_other w' i k (get_or fixed_words i 0) 0 ne ∙ s.past k (omega arith);
-      }
-
-  pub copied_all : fixed_length ≤ length w → fixed_length ≤ i → i ≤ fixed_length → FixedStored w w'
-  copied_all room l h =
-      let kept : Kept fixed_words w' 7 = λ k b. s.done k (omega arith) in
-      record {
-        table = fixed_table w' (omega (arith, s.long)) kept;
-        types = fixed_types_lem w' kept;
-        long = s.long;
-        past = λ k b. s.past k (omega arith);
-      }
+    long : length (front ++ drop fixed_length w) ≡ length w
+    long = simp (length-append, length-drop) (omega (arith, fits))

@@ -56,15 +56,6 @@ pub record Counted (w : List ℕ) (count cell at cells : ℕ) : Type 0 where
   pub lower : cells + at ≤ cell
   pub total : cells + cell_count (unfolded w at) ≡ cell_count (unfolded w cell)
 
-pub counted_start : (w : List ℕ) (count cell : ℕ) → IsList w count cell → Counted w count cell cell 0
-counted_start w count cell is =
-    record {
-      list = is;
-      high = ⊎_elim (λ (f : IsCell w count 12 cell). f.high) (λ (a : IsCell w count 13 cell). a.high) is;
-      lower = omega arith;
-      total = omega arith;
-    }
-
 module _ (w : List ℕ) (count : ℕ) (t : Table w count) (cell at cells : ℕ) (s : Counted w count cell at cells) where
   pub counted_done : at ≡ 0 → cells ≡ cell_count (unfolded w cell)
   unfolding cell_count
@@ -73,9 +64,6 @@ module _ (w : List ℕ) (count : ℕ) (t : Table w count) (cell at cells : ℕ) 
       omega (arith, s.total)
 
   module _ (ne : at ≡ 0 → ⊥) (r : Words) (e : r ≡ row_at w at) where
-    pub counted_less : r.second < at
-    counted_less = (list_rest w count t at ne r e s.list).1
-
     pub counted_next : Counted w count cell r.second (cells + 1)
     counted_next =
         let p = list_rest w count t at ne r e s.list in
@@ -86,9 +74,6 @@ module _ (w : List ℕ) (count : ℕ) (t : Table w count) (cell at cells : ℕ) 
 pub record Seeking (w : List ℕ) (count name : ℕ) (found : Option Ty) (cell : ℕ) : Type 0 where
   pub is : IsCell w count 12 cell
   pub same : field_named name (unfolded w cell) ≡ found
-
-pub seek_start : (w : List ℕ) (count name n cell : ℕ) (t : Ty) → CellPart w count n 12 t cell → Seeking w count name (field_named name t) cell
-seek_start w count name n cell t p = record { is = p.is; same = ap (field_named name) p.type }
 
 module _ (w : List ℕ) (count : ℕ) (t : Table w count) (name : ℕ) (found : Option Ty) (cell : ℕ) (s : Seeking w count name found cell) where
   pub seek_done : cell ≡ 0 → FoundType w count found 0
@@ -106,9 +91,6 @@ module _ (w : List ℕ) (count : ℕ) (t : Table w count) (name : ℕ) (found : 
 
     named : r.name ≡ name_of (unfolded w cell)
     named = read_name w count t cell low s.is.high r e
-
-    pub seek_less : r.second < cell
-    seek_less = (cell_rest w count t cell ne r e 12 (omega arith) s.is).lower
 
     pub seek_next : (r.name ≡ name → ⊥) → Seeking w count name found r.second
     seek_next other =

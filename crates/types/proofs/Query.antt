@@ -10,8 +10,8 @@ use borrow.Author.Tests.{eq-eqb, ne_eqb, eqb-false, le-ltb}
 use lib.Dec.{eqb}
 use Rattle.types.specs.Ty.{Ty, end, node, kind_of, first_of, second_of, size_of, name_of, same, desugar, remove_aliasing, strip_to}
 use Rattle.types.specs.Table.{Words, row_width, row_from, row_at, build, unfolded, Table, RowOk, IsType, IsCell}
-use Rattle.types.specs.Post.{HasTypePart, TypePart, CellPart}
-use Rattle.types.proofs.Laws.{unfolded_row, row_ok, first_lower, same_refl, same_false, injective}
+use Rattle.types.specs.Post.{HasTypePart, TypePart, CellPart, OnlyAliases, Strips, StrippedBy}
+use Rattle.types.proofs.Laws.{unfolded_row, row_ok, same_refl, same_false, injective}
 
 -- Aliases stripped
 
@@ -150,54 +150,6 @@ module _ (w : List ℕ) (count : ℕ) (t : Table w count) (n : ℕ) (low : 1 ≤
 pub row_placed : (w : List ℕ) (at place : ℕ) → place ≡ row_width * at - row_width → (r : Words) → r ≡ row_from w place → r ≡ row_at w at
 row_placed w at place p r e = e ∙ ap (row_from w) p
 
--- A row on the way from row n to what `strip` leaves of it
-pub record Stripping (strip : Ty → Ty) (w : List ℕ) (count n at : ℕ) : Type 0 where
-  pub is : IsType w count at
-  pub lower : at < n + 1
-  pub type : strip (unfolded w at) ≡ strip (unfolded w n)
-
-module _ (strip : Ty → Ty) (w : List ℕ) (count n : ℕ) where
-  pub strip_start : IsType w count n → Stripping strip w count n n
-  strip_start is = record { is = is; lower = omega arith; type = refl }
-
-  strip_done : (at : ℕ) → Stripping strip w count n at → strip (unfolded w at) ≡ unfolded w at → TypePart w count (n + 1) (strip (unfolded w n)) at
-  strip_done at s e = record { is = s.is; lower = s.lower; type = sym e ∙ s.type }
-
-  strip_next : Table w count → (at : ℕ) → Stripping strip w count n at → (r : Words) → r ≡ row_at w at → 10 ≤ r.kind
-      → strip (unfolded w at) ≡ strip (first_of (unfolded w at)) → Stripping strip w count n r.first
-  strip_next t at s r e l step =
-      let p = read_type w count t at s.is.low s.is.high r e (omega arith) (omega arith) in
-      record { is = p.is; lower = omega (arith, s.lower, p.lower); type = ap strip p.type ∙ sym step ∙ s.type }
-
-  pub strip_less : Table w count → (at : ℕ) → Stripping strip w count n at → (r : Words) → r ≡ row_at w at → r.first < at
-  strip_less t at s r e = subst (λ (x : Words). x.first < at) (sym e) (first_lower w count t at s.is.low s.is.high)
-
-module _ (w : List ℕ) (count n : ℕ) (t : Table w count) (at : ℕ) where
-  module _ (s : Stripping desugar w count n at) (r : Words) (e : r ≡ row_at w at) where
-    kind_at_lem : kind_of (unfolded w at) ≡ r.kind
-    kind_at_lem = sym (read_kind w count t at s.is.low s.is.high r e)
-
-    pub desugar_done : (r.kind ≡ 10 → ⊥) → TypePart w count (n + 1) (desugar (unfolded w n)) at
-    desugar_done ne = strip_done desugar w count n at s (desugar_other (unfolded w at) (λ k. ne (sym kind_at_lem ∙ k)))
-
-    pub desugar_next : r.kind ≡ 10 → Stripping desugar w count n r.first
-    desugar_next k = strip_next desugar w count n t at s r e (omega arith) (desugar_alias (unfolded w at) (kind_at_lem ∙ k))
-
-  module _ (s : Stripping remove_aliasing w count n at) (r : Words) (e : r ≡ row_at w at) where
-    kind_there : kind_of (unfolded w at) ≡ r.kind
-    kind_there = sym (read_kind w count t at s.is.low s.is.high r e)
-
-    pub strip_aliases_done : r.kind < 10 → TypePart w count (n + 1) (remove_aliasing (unfolded w n)) at
-    strip_aliases_done l = strip_done remove_aliasing w count n at s (strip_other (unfolded w at) (omega (arith, kind_there)) (omega (arith, kind_there)))
-
-    pub strip_aliases_next : 10 ≤ r.kind → Stripping remove_aliasing w count n r.first
-    strip_aliases_next l = strip_next remove_aliasing w count n t at s r e l (strip_alias (unfolded w at) kinds)
-      where
-        kinds : (kind_of (unfolded w at) ≡ 10) ⊎ (kind_of (unfolded w at) ≡ 11)
-        kinds =
-            let h : kind_of (unfolded w at) ≤ suc 10 = type_kind_lem w count t at s.is in
-            ⊎_elim (λ (b : kind_of (unfolded w at) ≤ 10). inl (omega (arith, kind_there))) (λ (q : kind_of (unfolded w at) ≡ 11). inr q) (le-suc_iff.0 h)
-
 -- The type that is wanted, one that is no distinct alias, and another distinct alias
 pub strip_to_here : (wanted t : Ty) → wanted ≡ t → strip_to wanted t ≡ t
 unfolding strip_to
@@ -216,20 +168,58 @@ unfolding strip_to
 strip_to_next wanted end e q = refl
 strip_to_next wanted (node k a b s n) e q = rw (eq-eqb k 11 e, q)
 
-module _ (w : List ℕ) (count n wanted : ℕ) (t : Table w count) (at : ℕ) (s : Stripping (strip_to (unfolded w wanted)) w count n at) where
-  pub to_wanted : at ≡ wanted → TypePart w count (n + 1) (strip_to (unfolded w wanted) (unfolded w n)) at
-  to_wanted e = strip_done (strip_to (unfolded w wanted)) w count n at s (strip_to_here (unfolded w wanted) (unfolded w at) (ap (unfolded w) (sym e)))
+-- A row on the way from row n to what is left of it
+pub record Stripping (w : List ℕ) (count n : ℕ) (Says : ℕ → Words → Bool → Type 0) (at : ℕ) : Type 0 where
+  pub is : IsType w count at
+  pub lower : at < n + 1
+  pub type : (strip : Ty → Ty) → Strips strip w count Says → strip (unfolded w at) ≡ strip (unfolded w n)
 
-  module _ (r : Words) (e : r ≡ row_at w at) where
-    distinct_at : kind_of (unfolded w at) ≡ r.kind
-    distinct_at = sym (read_kind w count t at s.is.low s.is.high r e)
+module _ (w : List ℕ) (count n : ℕ) (Says : ℕ → Words → Bool → Type 0) where
+  module _ (at : ℕ) (s : Stripping w count n Says at) (r : Words) (e : r ≡ row_at w at) where
+    pub strip_on : Table w count → OnlyAliases w count Says → (b : Bool) → Says at r b → b ≡ false → Stripping w count n Says r.first
+    strip_on t only b says goes =
+        let f = subst (Says at r) goes says in
+        let l = only at r s.is e f in
+        let p = read_type w count t at s.is.low s.is.high r e (omega arith) (omega arith) in
+        record {
+          is = p.is;
+          lower = omega (arith, s.lower, p.lower);
+          type = λ strip by. ap strip p.type ∙ sym (by.goes_on at r s.is e f) ∙ s.type strip by;
+        }
 
-    pub to_other : (r.kind ≡ 11 → ⊥) → TypePart w count (n + 1) (strip_to (unfolded w wanted) (unfolded w n)) at
-    to_other ne =
-        strip_done (strip_to (unfolded w wanted)) w count n at s (strip_to_other (unfolded w wanted) (unfolded w at) (λ k. ne (sym distinct_at ∙ k)))
+-- What the three tests say of a row
+module _ (w : List ℕ) (count : ℕ) (t : Table w count) (at : ℕ) (is : IsType w count at) (r : Words) (e : r ≡ row_at w at) where
+  kind_at_lem : kind_of (unfolded w at) ≡ r.kind
+  kind_at_lem = sym (read_kind w count t at is.low is.high r e)
 
-    pub to_next : wanted ≤ count → (at ≡ wanted → ⊥) → r.kind ≡ 11 → Stripping (strip_to (unfolded w wanted)) w count n r.first
-    to_next h ne k =
-        strip_next (strip_to (unfolded w wanted)) w count n t at s r e (omega arith)
-        (strip_to_next (unfolded w wanted) (unfolded w at) (distinct_at ∙ k)
-        (same_false _ _ (λ q. ne (sym (injective w count t wanted at h s.is.high q)))))
+  pub desugar_stays : (r.kind ≡ 10 → ⊥) → desugar (unfolded w at) ≡ unfolded w at
+  desugar_stays ne = desugar_other (unfolded w at) (λ z. ne (sym kind_at_lem ∙ z))
+
+  pub desugar_on : r.kind ≡ 10 → desugar (unfolded w at) ≡ desugar (first_of (unfolded w at))
+  desugar_on k = desugar_alias (unfolded w at) (kind_at_lem ∙ k)
+
+  pub remove_aliasing_stays : r.kind < 10 → remove_aliasing (unfolded w at) ≡ unfolded w at
+  remove_aliasing_stays l = strip_other (unfolded w at) (omega (arith, kind_at_lem)) (omega (arith, kind_at_lem))
+
+  pub remove_aliasing_on : 10 ≤ r.kind → remove_aliasing (unfolded w at) ≡ remove_aliasing (first_of (unfolded w at))
+  remove_aliasing_on l = strip_alias (unfolded w at) kinds
+    where
+      kinds : (kind_of (unfolded w at) ≡ 10) ⊎ (kind_of (unfolded w at) ≡ 11)
+      kinds =
+          let h : kind_of (unfolded w at) ≤ suc 10 = type_kind_lem w count t at is in
+          ⊎_elim (λ (b : kind_of (unfolded w at) ≤ 10). inl (omega (arith, kind_at_lem))) (λ (q : kind_of (unfolded w at) ≡ 11). inr q) (le-suc_iff.0 h)
+
+  module _ (wanted : ℕ) where
+    pub strip_to_stays : (at ≡ wanted) ⊎ (r.kind ≡ 11 → ⊥) → strip_to (unfolded w wanted) (unfolded w at) ≡ unfolded w at
+    strip_to_stays =
+        ⊎_elim
+        (λ (same : at ≡ wanted). strip_to_here (unfolded w wanted) (unfolded w at) (ap (unfolded w) (sym same)))
+        (λ (ne : r.kind ≡ 11 → ⊥). strip_to_other (unfolded w wanted) (unfolded w at) (λ k. ne (sym kind_at_lem ∙ k)))
+
+    pub strip_to_on : wanted ≤ count → (at ≡ wanted → ⊥) → r.kind ≡ 11 → strip_to (unfolded w wanted) (unfolded w at) ≡ strip_to (unfolded w wanted) (first_of (unfolded w at))
+    strip_to_on h ne k =
+        strip_to_next (unfolded w wanted) (unfolded w at) (kind_at_lem ∙ k) (same_false _ _ (λ q. ne (sym (injective w count t wanted at h is.high q))))
+
+-- What is left by a way to strip that the test is a test of
+pub stripped : (strip : Ty → Ty) (w : List ℕ) (count n : ℕ) (Says : ℕ → Words → Bool → Type 0) (r : ℕ) → StrippedBy w count n Says r → Strips strip w count Says → TypePart w count (n + 1) (strip (unfolded w n)) r
+stripped strip w count n Says r s by = record { is = s.is; lower = s.lower; type = s.type strip by }

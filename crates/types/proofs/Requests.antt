@@ -5,6 +5,7 @@ use mathlib.Core.List.{List}
 use mathlib.Core.Logic.{◌⊎◌, inl, inr}
 use native.Mathlib.Omega.{arith}
 use lib.ListN.{length}
+use Rattle.std.specs.Prelude.{Option, Some, None}
 use Rattle.types.specs.Ty.{Ty, end, node}
 use Rattle.row_index.specs.Index.{with_row, with_rows}
 use Rattle.types.specs.WordSize.{size_word}
@@ -14,7 +15,7 @@ use Rattle.types.specs.declared.Row.{Row}
 use Rattle.types.specs.declared.Row.TheVariants.{Pointer, Array, Struct, Function, Alias, DistinctAlias, Field, Argument}
 use Rattle.types.proofs.Laws.{unfolded_zero, unfolded_row}
 use Rattle.types.proofs.Set.{added_found}
-use Rattle.types.proofs.Append.{stored_row, stored_linked, added_stored, new_type, highest_low, none_like}
+use Rattle.types.proofs.Append.{stored_row, stored_linked, added_stored, new_type, none_like}
 
 -- Its words unfold to its type
 pub words_type : (row : Row) (look : ℕ → Ty) → look 0 ≡ end → build (words_of row) look ≡ type_of_row row look
@@ -67,49 +68,51 @@ module _ (w : List ℕ) (c n : ℕ) (l : 1 ≤ n) (h : n ≤ c) where
   words_sort (Field t rest name) e = a_cell (words_of (Field t rest name)) e
   words_sort (Argument t rest) e = a_cell (words_of (Argument t rest)) e
 
--- What `intern` knows after its search for the row's words r, with the answer n
-pub record Sought (w : List ℕ) (c : ℕ) (row : Row) (r : Words) (m n : ℕ) : Type 0 where
+-- What `intern` knows after its search for the row's words r, with its answer
+pub record Sought (w : List ℕ) (c : ℕ) (row : Row) (r : Words) (m : ℕ) (answer : Option ℕ) : Type 0 where
   pub table : Table w c
   pub parts : PartsOk w c row
   pub words : r ≡ words_of row
   pub highest : m ≡ highest_part r
-  pub found : Found w m c r n
+  pub found : Found w m c r answer
 
-pub intern_from : (w : List ℕ) (c : ℕ) (row : Row) → PartsOk w c row → (r : Words) → r ≡ words_of row → (m : ℕ) → m ≡ highest_part r → m ≤ c
-intern_from w c row parts r e m h =
-    subst (λ (x : ℕ). x ≤ c) (sym h) (highest_low w c r (subst (RowOk w c) (sym e) (words_ok w c row parts)))
-
-module _ {w : List ℕ} {c : ℕ} {row : Row} {r : Words} {m n : ℕ} (s : Sought w c row r m n) where
+module _ {w : List ℕ} {c : ℕ} {row : Row} {r : Words} {m : ℕ} {answer : Option ℕ} (s : Sought w c row r m answer) where
   pub intern_ok : RowOk w c r
   intern_ok = subst (RowOk w c) (sym s.words) (words_ok w c row s.parts)
 
   built : build r (unfolded w) ≡ type_of_row row (unfolded w)
   built = ap (λ (x : Words). build x (unfolded w)) s.words ∙ words_type row (unfolded w) (unfolded_zero w)
 
-  pub intern_found : (n ≡ 0 → ⊥) → Added w c (type_of_row row (unfolded w)) w n c × Sort w c row n
-  intern_found ne =
-      let l : 1 ≤ n = omega arith in
-      let h = s.found.high in
-      let e = s.found.found l in (
-        added_found w c n (type_of_row row (unfolded w)) s.table l h (unfolded_row w c s.table n l h ∙ ap (λ (x : Words). build x (unfolded w)) e ∙ built),
-        words_sort w c n l h row (e ∙ s.words),
-      )
-
   pub intern_linked : row_width * (c + 1) ≤ length w → (size : ℕ) {w' : List ℕ} → w' ≡ stored w c r size → (b : List ℕ) {b' : List ℕ} → b' ≡ with_row b (c + 1) r → b' ≡ with_rows b w' c (c + 1)
   intern_linked room size = stored_linked w c r size (omega arith)
 
-  module _ (z : n ≡ 0) where
-    none : (i : ℕ) → 1 ≤ i → i ≤ c → row_at w i ≡ r → ⊥
-    none = none_like w c s.table.rows r n (subst (λ (x : ℕ). Found w x c r n) s.highest s.found) z
+-- A row of the table has them
+pub intern_found : {w : List ℕ} {c : ℕ} {row : Row} {r : Words} {m n : ℕ} → Sought w c row r m (Some n) → Added w c (type_of_row row (unfolded w)) w n c × Sort w c row n
+intern_found {w} {c} {row} {r} {m} {n} s =
+    let p = s.found.past in
+    let h = s.found.high in
+    let l : 1 ≤ n = omega arith in
+    let e = s.found.found in (
+      added_found w c n (type_of_row row (unfolded w)) s.table l h (unfolded_row w c s.table n l h ∙ ap (λ (x : Words). build x (unfolded w)) e ∙ built s),
+      words_sort w c n l h row (e ∙ s.words),
+    )
 
-    pub intern_full : (length w < row_width * (c + 1)) ⊎ (2 ^ 32 ≤ c + 1) → NoRoom w c (type_of_row row (unfolded w)) w
-    intern_full full = record { kept = refl; absent = ap (has_type w c) (sym built) ∙ new_type w c r s.table intern_ok none; full = full }
+-- None has
+module _ {w : List ℕ} {c : ℕ} {row : Row} {r : Words} {m : ℕ} (s : Sought w c row r m None) where
+  type_built : build r (unfolded w) ≡ type_of_row row (unfolded w)
+  type_built = built s
 
-    pub intern_new : c + 1 < 2 ^ 32 → row_width * (c + 1) ≤ length w → (size : ℕ) → size ≡ size_word (build r (unfolded w)) → {w' : List ℕ} → w' ≡ stored w c r size
-        → Added w c (type_of_row row (unfolded w)) w' (c + 1) (c + 1) × Sort w' (c + 1) row (c + 1)
-    intern_new small room size size_is {w'} e =
-        let space : row_width * c + row_width ≤ length w = omega arith in
-        let added = added_stored w c r size space s.table intern_ok size_is none small in (
-          subst (λ (x : List ℕ). Added w c (type_of_row row (unfolded w)) x (c + 1) (c + 1)) (sym e) (subst (λ (u : Ty). Added w c u (stored w c r size) (c + 1) (c + 1)) built added),
-          words_sort w' (c + 1) (c + 1) (omega arith) (omega arith) row (ap (λ (x : List ℕ). row_at x (c + 1)) e ∙ stored_row w c r size space ∙ s.words),
-        )
+  none : (i : ℕ) → 1 ≤ i → i ≤ c → row_at w i ≡ r → ⊥
+  none = none_like w c s.table.rows r (subst (λ (x : ℕ). Found w x c r None) s.highest s.found)
+
+  pub intern_full : (length w < row_width * (c + 1)) ⊎ (2 ^ 32 ≤ c + 1) → NoRoom w c (type_of_row row (unfolded w)) w
+  intern_full full = record { kept = refl; absent = ap (has_type w c) (sym type_built) ∙ new_type w c r s.table (intern_ok s) none; full = full }
+
+  pub intern_new : c + 1 < 2 ^ 32 → row_width * (c + 1) ≤ length w → (size : ℕ) → size ≡ size_word (build r (unfolded w)) → {w' : List ℕ} → w' ≡ stored w c r size
+      → Added w c (type_of_row row (unfolded w)) w' (c + 1) (c + 1) × Sort w' (c + 1) row (c + 1)
+  intern_new small room size size_is {w'} e =
+      let space : row_width * c + row_width ≤ length w = omega arith in
+      let added = added_stored w c r size space s.table (intern_ok s) size_is none small in (
+        subst (λ (x : List ℕ). Added w c (type_of_row row (unfolded w)) x (c + 1) (c + 1)) (sym e) (subst (λ (u : Ty). Added w c u (stored w c r size) (c + 1) (c + 1)) type_built added),
+        words_sort w' (c + 1) (c + 1) (omega arith) (omega arith) row (ap (λ (x : List ℕ). row_at x (c + 1)) e ∙ stored_row w c r size space ∙ s.words),
+      )

@@ -1,5 +1,5 @@
 -- The size of a row, from the sizes of its parts: each exit of `size_word`.
-use Prim.Native.Nat.{ℕ, zero, suc, ◌+◌, ◌-◌, ◌*◌, ◌≤◌, ◌<◌}
+use Prim.Native.Nat.{ℕ, zero, suc, ◌+◌, ◌-◌, ◌≤◌, ◌<◌}
 use mathlib.Core.Path.{◌≡◌, refl, sym, ap, ◌∙◌, subst}
 use mathlib.Core.List.{List}
 use mathlib.Core.Bool.{Bool, true, false}
@@ -9,12 +9,11 @@ use native.Mathlib.Omega.{arith}
 use native.Mathlib.Decide.{dec_le}
 use borrow.Author.Tests.{eq-eqb, ne_eqb, eqb-true, eqb-false, le-ltb}
 use lib.Dec.{eqb}
-use lib.ListN.{length}
 use Rattle.size_words.specs.SizeWords.{unknown_word, capped, known, array_word, field_word}
 use Rattle.size_words.proofs.Capped.{product_capped, capped_known}
 use Rattle.types.specs.Ty.{Ty, end, node, kind_of, array_kind, struct_kind, function_kind, alias_kind, distinct_kind, field_kind, argument_kind}
 use Rattle.types.specs.WordSize.{IrType, array, struct, function, more, join, ir_type_of, to_ir_type, ir_word_size, type_word, argument_word, size_word}
-use Rattle.types.specs.Table.{Words, row_width, row_at, size_word_at, build, up_to, unfolded, first_part, second_part, PartOk, RowOk, IsType, IsCell, Sizes, SameSizes, Table}
+use Rattle.types.specs.Table.{Words, row_at, build, up_to, unfolded, first_part, second_part, PartOk, RowOk, IsType, IsCell, Sizes, SameSizes, Table}
 use Rattle.types.specs.Post.{part_word}
 use Rattle.types.proofs.Laws.{unfolded_zero, first_at_most, second_at_most}
 
@@ -118,14 +117,6 @@ module _ (a b : Ty) (s n : ℕ) where
       ∙ known_tells (size_word a) (size_word b) 0 (to_ir_type a) (to_ir_type b) (size_tells a) (size_tells b) more argument_word refl (λ s t. refl)
 
 -- The size of a part; the number 0 has 0 words
-pub part_none : (w : List ℕ) (n : ℕ) → n < 1 → 0 ≡ part_word w n
-part_none w zero h = refl
-part_none w (suc n) h = absurd (omega arith)
-
-pub part_here : (w : List ℕ) (n : ℕ) → 1 ≤ n → (x : ℕ) → x ≡ size_word_at w n → x ≡ part_word w n
-part_here w zero l x e = absurd (omega arith)
-part_here w (suc n) l x e = e
-
 part_size : (w : List ℕ) (m : ℕ) → Sizes w m → (n : ℕ) → n ≤ m → part_word w n ≡ size_word (unfolded w n)
 unfolding size_word
 part_size w m sizes zero h = sym (ap size_word (unfolded_zero w))
@@ -150,12 +141,6 @@ fields_counted w m (suc n) is e =
 
 -- A row that may stand behind the rows 1 to m
 module _ (w : List ℕ) (m : ℕ) (r : Words) (ok : RowOk w m r) where
-  pub first_room : row_width * m ≤ length w → row_width * r.first ≤ length w
-  first_room room = let h = first_at_most w m r ok in omega arith
-
-  pub second_room : (r.kind ≡ 7 → ⊥) → row_width * m ≤ length w → row_width * r.second ≤ length w
-  second_room ne room = let h = second_at_most w m r ok ne in omega arith
-
   first_type_lem : 7 ≤ r.kind → (r.kind ≡ struct_kind → ⊥) → Counted (unfolded w r.first)
   first_type_lem l ne =
       let low : 6 ≤ r.kind = omega arith in

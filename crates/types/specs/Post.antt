@@ -1,10 +1,10 @@
 -- What the functions of the table promise.
-use Rattle.std.specs.Prelude.{ℕ, zero, suc, ◌+◌, ◌*◌, ◌^◌, ◌≤◌, ◌<◌, ◌≡◌, false, cond, ◌||◌, List, ◌⊎◌, eqb, ltb, length, get_or}
-use Rattle.std.proofs.Math.Option.{Option, none, some}
-use Rattle.types.specs.Ty.{Ty, same, member, fixed_types, kind_of, pointer, array, struct, function, alias}
+use Rattle.std.specs.Prelude.{ℕ, zero, suc, ◌+◌, ◌*◌, ◌^◌, ◌≤◌, ◌<◌, ◌≡◌, Bool, true, false, cond, ◌||◌, Option, Some, None, List, ◌⊎◌, eqb, ltb, length, get_or}
+use Rattle.std.proofs.Math.Option.{Option as Maybe, none, some}
+use Rattle.types.specs.Ty.{Ty, same, member, fixed_types, kind_of, first_of, pointer, array, struct, function, alias}
 use Rattle.types.specs.Ty.{distinct, field, argument, pointer_kind, array_kind, struct_kind, function_kind, alias_kind}
 use Rattle.types.specs.Ty.{distinct_kind, field_kind, argument_kind, string_name}
-use Rattle.types.specs.Table.{Words, words, row_width, size_word_at, fixed_count, fixed_length, unfolded, has_type}
+use Rattle.types.specs.Table.{Words, words, row_width, row_at, size_word_at, fixed_count, fixed_length, unfolded, has_type}
 use Rattle.types.specs.Table.{Table, Extends, IsType, IsCell}
 pub use Rattle.rows.specs.Row.{stored}
 pub use Rattle.rows.specs.Search.{Found}
@@ -12,7 +12,6 @@ use Rattle.types.specs.declared.Row.{Row}
 use Rattle.types.specs.declared.Row.TheVariants.{Pointer, Array, Struct, Function, Alias, DistinctAlias, Field}
 use Rattle.types.specs.declared.Row.TheVariants.{Argument}
 use Rattle.types.specs.declared.Interned.{Interned}
-use Rattle.types.specs.declared.Interned.TheVariants.{At, Full}
 
 -- The type of a row that is asked for, where `look` unfolds its parts
 abbrev pub type_of_row : Row → (look : ℕ → Ty) → Ty
@@ -75,14 +74,14 @@ pub record NoRoom (w : List ℕ) (count : ℕ) (t : Ty) (w' : List ℕ) : Type 0
   pub full : (length w < row_width * (count + 1)) ⊎ (2 ^ 32 ≤ count + 1)
 
 -- The answer of `intern`, by cases
-abbrev pub InternPost : List ℕ → (count : ℕ) → Row → List ℕ → Interned → Type 0
-InternPost w count r w' (At n count') = Added w count (type_of_row r (unfolded w)) w' n count' × Sort w' count' r n
-InternPost w count r w' Full = NoRoom w count (type_of_row r (unfolded w)) w'
+abbrev pub InternPost : List ℕ → (count : ℕ) → Row → List ℕ → Option Interned → Type 0
+InternPost w count r w' (Some a) = Added w count (type_of_row r (unfolded w)) w' a.number a.count × Sort w' a.count r a.number
+InternPost w count r w' None = NoRoom w count (type_of_row r (unfolded w)) w'
 
 -- How many rows there are after `intern`
-abbrev pub count_after : (count : ℕ) → Interned → ℕ
-count_after count (At n count') = count'
-count_after count Full = count
+abbrev pub count_after : (count : ℕ) → Option Interned → ℕ
+count_after count (Some a) = a.count
+count_after count None = count
 
 -- The seven fixed rows are stored, and no other word is changed
 pub record FixedStored (w w' : List ℕ) : Type 0 where
@@ -97,6 +96,21 @@ pub record TypePart (w : List ℕ) (count n : ℕ) (t : Ty) (r : ℕ) : Type 0 w
   pub lower : r < n
   pub type : unfolded w r ≡ t
 
+-- A test goes on from aliases alone
+abbrev pub OnlyAliases : List ℕ → (count : ℕ) → (Says : (at : ℕ) → Words → Bool → Type 0) → Type 0
+OnlyAliases w count Says = (at : ℕ) (r : Words) → IsType w count at → r ≡ row_at w at → Says at r false → alias_kind ≤ r.kind
+
+-- `strip` leaves a row as it is where the test stops, and else goes on to what the row is an alias of
+pub record Strips (strip : Ty → Ty) (w : List ℕ) (count : ℕ) (Says : (at : ℕ) → Words → Bool → Type 0) : Type 0 where
+  pub stays : (at : ℕ) (r : Words) → IsType w count at → r ≡ row_at w at → Says at r true → strip (unfolded w at) ≡ unfolded w at
+  pub goes_on : (at : ℕ) (r : Words) → IsType w count at → r ≡ row_at w at → Says at r false → strip (unfolded w at) ≡ strip (first_of (unfolded w at))
+
+-- r is the row that is left of row n, of which is stripped what the test says
+pub record StrippedBy (w : List ℕ) (count n : ℕ) (Says : (at : ℕ) → Words → Bool → Type 0) (r : ℕ) : Type 0 where
+  pub is : IsType w count r
+  pub lower : r < n + 1
+  pub type : (strip : Ty → Ty) → Strips strip w count Says → unfolded w r ≡ strip (unfolded w n)
+
 -- r is 0 or a cell of kind k, below n, and unfolds to the list t
 pub record CellPart (w : List ℕ) (count n k : ℕ) (t : Ty) (r : ℕ) : Type 0 where
   pub is : IsCell w count k r
@@ -104,7 +118,7 @@ pub record CellPart (w : List ℕ) (count n k : ℕ) (t : Ty) (r : ℕ) : Type 0
   pub type : unfolded w r ≡ t
 
 -- r is the type row of what was found, or 0 if nothing was
-pub record FoundType (w : List ℕ) (count : ℕ) (found : Option Ty) (r : ℕ) : Type 0 where
+pub record FoundType (w : List ℕ) (count : ℕ) (found : Maybe Ty) (r : ℕ) : Type 0 where
   pub absent : r ≡ 0 → found ≡ none
   pub is : 1 ≤ r → IsType w count r
   pub type : 1 ≤ r → found ≡ some (unfolded w r)

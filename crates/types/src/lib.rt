@@ -10,7 +10,7 @@ ghost use Rattle.types.specs.Ty.{argument_kind};
 ghost use Rattle.types.specs.WordSize.{size_word};
 ghost use Rattle.types.specs.Table.{row_width, fixed_length, build, unfolded, RowOk, Sizes, Table, IsType, IsList};
 ghost use Rattle.types.specs.Post.{words_of, highest_part, part_word, PartsOk, InternPost, count_after, FixedStored};
-ghost use Rattle.types.specs.Post.{HasTypePart, TypePart, CellPart, FoundType};
+ghost use Rattle.types.specs.Post.{HasTypePart, TypePart, CellPart, FoundType, OnlyAliases, StrippedBy};
 
 use rows::{ROW_WIDTH, Words, row_at, row_from, size_word_at, store};
 use size_words::{UNKNOWN_WORD, array_word, field_word, known_word};
@@ -23,7 +23,8 @@ pub const FIXED_LENGTH: usize = ROW_WIDTH * (FIXED_COUNT as usize);
 // The row of String; that of another built-in type has the number of its kind.
 pub const STRING: u32 = 7;
 
-// The kinds of rows.
+// The kinds of rows. They are numbers and no enum, since a kind is a word of lent rows: test 8 is lent any word there, and
+// the rows are sorted by their order.
 pub const UNKNOWN: u32 = 1;
 
 pub const VOID: u32 = 2;
@@ -54,7 +55,7 @@ pub const ARGUMENT: u32 = 13;
 pub const STRING_NAME: u32 = 65535;
 
 // Unknown, void, bool, u16, i16, pointer to u16, String.
-pub const FIXED_WORDS: [u32; FIXED_LENGTH] = [
+pub static FIXED_WORDS: [u32; FIXED_LENGTH] = [
     UNKNOWN,
     0,
     0,
@@ -115,11 +116,11 @@ pub enum Row {
     Argument { ty: u32, rest: u32 },
 }
 
-// The answer of `intern`: the row's number and the new count, or no room for one more row.
+// The answer of `intern` where there is room: the row's number and the new count.
 #[derive(Clone, Copy)]
-pub enum Interned {
-    At { number: u32, count: u32 },
-    Full,
+pub struct Interned {
+    pub number: u32,
+    pub count: u32,
 }
 
 // The kind of row n.
@@ -212,10 +213,7 @@ pub fn field_named(rows: &[u32], count: u32, n: u32, name: u32) -> u32
             }
             let before = cell - 1;
             cell = row.second;
-            if cell != before {
-                break;
-            }
-            if cell == 0 {
+            if cell != before || cell == 0 {
                 break;
             }
             place -= ROW_WIDTH;
@@ -238,10 +236,7 @@ pub fn cell_count(rows: &[u32], count: u32, cell: u32) -> u32
             cells += 1;
             let before = at - 1;
             at = row.second;
-            if at != before {
-                break;
-            }
-            if at == 0 {
+            if at != before || at == 0 {
                 break;
             }
             place -= ROW_WIDTH;
@@ -250,17 +245,19 @@ pub fn cell_count(rows: &[u32], count: u32, cell: u32) -> u32
     cells
 }
 
-// Row n with its transparent aliases stripped at the top.
-pub fn desugar(rows: &[u32], count: u32, n: u32) -> u32
-    requires { Table rows.now count × IsType rows.now count n }
-    ensures { TypePart rows.now count (n + 1) (desugared (unfolded rows.now n)) result }
+// The row that is left of row n, of which one alias after the other is stripped at the top until the test stops at a row.
+fn strip_until<F: Fn(u32, Words) -> bool>(rows: &[u32], count: u32, n: u32, stops: F) -> u32
+    requires table { Table rows.now count × IsType rows.now count n }
+    requires callable { F.IsAlwaysCallable stops }
+    requires aliases { OnlyAliases rows.now count (F.post stops) }
+    ensures { StrippedBy rows.now count n (F.post stops) result }
 {
     let mut at = n;
     loop {
         let mut place = ROW_WIDTH * (at as usize) - ROW_WIDTH;
         loop {
             let row = row_from(rows, place);
-            if row.kind != ALIAS {
+            if stops(at, row) {
                 return at;
             }
             let before = at - 1;
@@ -271,6 +268,14 @@ pub fn desugar(rows: &[u32], count: u32, n: u32) -> u32
             place -= ROW_WIDTH;
         }
     }
+}
+
+// Row n with its transparent aliases stripped at the top.
+pub fn desugar(rows: &[u32], count: u32, n: u32) -> u32
+    requires { Table rows.now count × IsType rows.now count n }
+    ensures { TypePart rows.now count (n + 1) (desugared (unfolded rows.now n)) result }
+{
+    strip_until(rows, count, n, |_, row| row.kind != ALIAS)
 }
 
 // Row n with its aliases of both sorts stripped at the top.
@@ -278,22 +283,7 @@ pub fn remove_aliasing(rows: &[u32], count: u32, n: u32) -> u32
     requires { Table rows.now count × IsType rows.now count n }
     ensures { TypePart rows.now count (n + 1) (remove_aliasing (unfolded rows.now n)) result }
 {
-    let mut at = n;
-    loop {
-        let mut place = ROW_WIDTH * (at as usize) - ROW_WIDTH;
-        loop {
-            let row = row_from(rows, place);
-            if row.kind < ALIAS {
-                return at;
-            }
-            let before = at - 1;
-            at = row.first;
-            if at != before {
-                break;
-            }
-            place -= ROW_WIDTH;
-        }
-    }
+    strip_until(rows, count, n, |_, row| row.kind < ALIAS)
 }
 
 // Row n with its distinct aliases stripped at the top, as far as the row that is wanted.
@@ -301,25 +291,9 @@ pub fn strip_to(rows: &[u32], count: u32, n: u32, wanted: u32) -> u32
     requires { Table rows.now count × IsType rows.now count n × (wanted ≤ count) }
     ensures { TypePart rows.now count (n + 1) (strip_to (unfolded rows.now wanted) (unfolded rows.now n)) result }
 {
-    let mut at = n;
-    loop {
-        let mut place = ROW_WIDTH * (at as usize) - ROW_WIDTH;
-        loop {
-            if at == wanted {
-                return at;
-            }
-            let row = row_from(rows, place);
-            if row.kind != DISTINCT_ALIAS {
-                return at;
-            }
-            let before = at - 1;
-            at = row.first;
-            if at != before {
-                break;
-            }
-            place -= ROW_WIDTH;
-        }
-    }
+    strip_until(rows, count, n, move |at, row| {
+        at == wanted || row.kind != DISTINCT_ALIAS
+    })
 }
 
 // The words of a row that is asked for.
@@ -346,12 +320,10 @@ pub fn highest_part(row: Words) -> u32
     ensures { result ≡ highest_part row }
 {
     if row.kind == ARRAY {
-        return row.first;
+        row.first
+    } else {
+        row.first.max(row.second)
     }
-    if row.first < row.second {
-        return row.second;
-    }
-    row.first
 }
 
 // The size of a part: the fifth word of that row, or 0 for the number 0.
@@ -360,9 +332,10 @@ fn part_word(rows: &[u32], part: u32) -> u32
     ensures { result ≡ part_word rows.now part }
 {
     if part < 1 {
-        return 0;
+        0
+    } else {
+        size_word_at(rows, part)
     }
-    size_word_at(rows, part)
 }
 
 // The size of a row that may stand behind the rows 1 to m, from the sizes of its parts.
@@ -370,44 +343,27 @@ pub fn size_word(rows: &[u32], m: u32, row: Words) -> u32
     requires { RowOk rows.now m row × Sizes rows.now m × (row_width * m ≤ length rows.now) }
     ensures { result ≡ size_word (build row (unfolded rows.now)) }
 {
-    let kind = row.kind;
-    if kind < VOID {
-        return UNKNOWN_WORD;
+    match row.kind {
+        ..=UNKNOWN => UNKNOWN_WORD,
+        VOID => 0,
+        BOOL..=POINTER => 1,
+        ARRAY => array_word(part_word(rows, row.first), row.second),
+        STRUCT => part_word(rows, row.first),
+        FUNCTION => known_word(part_word(rows, row.first), part_word(rows, row.second), 1),
+        ALIAS..=DISTINCT_ALIAS => part_word(rows, row.first),
+        FIELD => field_word(part_word(rows, row.first), part_word(rows, row.second)),
+        ARGUMENT.. => known_word(part_word(rows, row.first), part_word(rows, row.second), 0),
     }
-    if kind < BOOL {
-        return 0;
-    }
-    // bool, u16, i16, pointer
-    if kind < ARRAY {
-        return 1;
-    }
-    let first = part_word(rows, row.first);
-    if kind == ARRAY {
-        return array_word(first, row.second);
-    }
-    if kind == FUNCTION {
-        return known_word(first, part_word(rows, row.second), 1);
-    }
-    // struct, the two sorts of alias
-    if kind < FIELD {
-        return first;
-    }
-    let rest = part_word(rows, row.second);
-    if kind == FIELD {
-        return field_word(first, rest);
-    }
-    // argument cell
-    known_word(first, rest, 0)
 }
 
-// The row that is asked for: found, or added behind the first `count` rows.
+// The row that is asked for: found, or added behind the first `count` rows, unless there is no room for one more.
 // A row stands behind its parts, so the search starts behind the highest of them.
 pub fn intern(
     rows: &mut [u32],
     index: &mut [u16; row_index::LENGTH],
     count: u32,
     row: Row,
-) -> Interned
+) -> Option<Interned>
     requires table { Table rows.old count × PartsOk rows.old count row }
     requires rows_indexed { RowsIndexed rows.old count index.old }
     ensures intern_post { InternPost rows.old count row rows.new result }
@@ -415,34 +371,26 @@ pub fn intern(
 {
     let wanted = words_of(row);
     let below = highest_part(wanted);
-    let n = row_index::find(rows, index, below, count, wanted);
-    if n != 0 {
-        return Interned::At { number: n, count };
+    if let Some(number) = row_index::find(rows, index, below, count, wanted) {
+        return Some(Interned { number, count });
     }
-    if rows.len() < ROW_WIDTH * (count as usize + 1) {
-        return Interned::Full;
-    }
-    if count == u32::MAX {
-        return Interned::Full;
+    if rows.len() < ROW_WIDTH * (count as usize + 1) || count == u32::MAX {
+        return None;
     }
     let size = size_word(rows, count, wanted);
     store(rows, count, wanted, size);
     row_index::link(index, count + 1, wanted);
-    Interned::At {
+    Some(Interned {
         number: count + 1,
         count: count + 1,
-    }
+    })
 }
 
 // Stores the fixed rows.
+#[tactic(auto, using(crate::proofs::Fixed::stored_front))]
 pub fn put_fixed_rows(rows: &mut [u32])
     requires { fixed_length ≤ length rows.old }
     ensures { FixedStored rows.old rows.new }
 {
-    let fixed = FIXED_WORDS;
-    let mut i = 0;
-    while i < FIXED_LENGTH {
-        rows[i] = fixed[i];
-        i += 1;
-    }
+    rows[..FIXED_LENGTH].copy_from_slice(&FIXED_WORDS);
 }

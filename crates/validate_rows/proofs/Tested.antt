@@ -1,53 +1,61 @@
 -- The table's rules, tested row by row.
-use Prim.Native.Nat.{ℕ, ◌+◌, ◌*◌, ◌^◌, ◌≤◌, ◌<◌}
+use Prim.Native.Nat.{ℕ, ◌+◌, ◌≤◌, ◌<◌}
 use mathlib.Core.Path.{◌≡◌, sym, ap, ◌∙◌, subst}
-use mathlib.Core.Bool.{Bool, true, false, not}
+use mathlib.Core.Bool.{Bool, false}
 use mathlib.Core.List.{List}
 use native.Mathlib.Omega.{arith}
-use borrow.Author.Tests.{not-true, not-false}
-use lib.ListN.{length, replicate, length-replicate, get_or-replicate}
-use Rattle.rows.specs.Search.{Found}
-use Rattle.rows.proofs.Decide.{holds, fails}
+use mathlib.Core.Bool.{true≢false}
+use lib.Dec.{eqb}
+use lib.Seq.{length-take-le, get_or-take}
+use Rattle.std.proofs.lemmas.Slice.Eq.{slice_eq-Decides}
+use Rattle.std.proofs.lemmas.Bool.Decides.{Decides-eqb}
+use Rattle.std.proofs.lemmas.Grind.{same_number_lists}
+use Rattle.std.specs.Cmp.Lexicographic.{pointwise}
+use lib.ListN.{length, get_or, take, replicate, length-replicate, get_or-replicate}
+use Rattle.std.specs.Prelude.{Option, Some, None}
+use Rattle.std.specs.Option.{is_some}
+use Rattle.rows.specs.Search.{Found, NoRow}
+use Rattle.rows.proofs.Decide.{fails}
 use Rattle.types.specs.WordSize.{size_word}
-use Rattle.types.specs.Table.{row_width, Words, row_at, size_word_at, build, unfolded, FixedRows, RowOk, Table, Decides}
+use Rattle.types.specs.Table.{Words, row_at, size_word_at, build, unfolded, fixed_length, fixed_words, FixedRows, RowOk, Table, Decides}
 use Rattle.types.specs.Post.{highest_part}
 use Rattle.types.proofs.Laws.{unfolded_row}
 use Rattle.types.proofs.Rows.{Rows, rows_add}
-use Rattle.types.proofs.Append.{highest_low, none_like}
+use Rattle.types.proofs.Append.{none_like}
 use Rattle.row_index.specs.Index.{index_length, with_row, RowsIndexed}
 use Rattle.row_index.proofs.Index.{rows_indexed_none, rows_indexed_more}
 
-module _ (w : List ℕ) (m : ℕ) (r : Words) (e : r ≡ row_at w (m + 1)) where
-  module _ (b : Bool) (d : Decides (RowOk w m r) b) where
-    pub row_wrong : (count : ℕ) → m < count → not b ≡ true → Decides (Table w count) false
-    row_wrong count h q = fails (λ t. d.no (not-true b q) (subst (RowOk w m) (sym e) (t.rows m h)))
+-- The words begin with the fixed ones, by a comparison
+pub fixed_by : (w : List ℕ) → fixed_length ≤ length w → (b : Bool) → b ≡ pointwise eqb fixed_words (take fixed_length w) → Decides (FixedRows w) b
+fixed_by w room b e =
+    let tested = slice_eq-Decides Decides-eqb fixed_words (take fixed_length w) b e in
+    record {
+      yes = λ y i h. sym (get_or-take fixed_length w i 0 h) ∙ ap (λ (l : List ℕ). get_or l i 0) (sym (tested.0 y));
+      no = λ f all.
+          true≢false
+          (sym (tested.1 (same_number_lists fixed_words (take fixed_length w) (sym (length-take-le fixed_length w room))
+          (λ k h. sym (get_or-take fixed_length w k 0 h ∙ all k h)))) ∙ f);
+    }
 
-    pub row_rules : not b ≡ false → RowOk w m r
-    row_rules q = d.yes (not-false b q)
+-- One more row that obeys the rules
+module _ (w : List ℕ) (m : ℕ) (r : Words) (e : r ≡ row_at w (m + 1)) (ok : RowOk w m r) where
+  pub size_wrong : (count : ℕ) → m < count → (size_word_at w (m + 1) ≡ size_word (build r (unfolded w)) → ⊥) → Decides (Table w count) false
+  size_wrong count h wrong =
+      fails
+      (λ t. wrong
+      (t.sizes (m + 1) (omega arith) (omega arith)
+      ∙ ap size_word (unfolded_row w count t (m + 1) (omega arith) (omega arith) ∙ ap (λ (x : Words). build x (unfolded w)) (sym e))))
 
-    -- Its size
-    pub size_wrong : (count : ℕ) → m < count → (a : Bool) → Decides (size_word_at w (m + 1) ≡ size_word (build r (unfolded w))) a → not a ≡ true → Decides (Table w count) false
-    size_wrong count h a f q =
-        fails
-        (λ t. f.no (not-true a q)
-        (t.sizes (m + 1) (omega arith) (omega arith)
-        ∙ ap size_word (unfolded_row w count t (m + 1) (omega arith) (omega arith) ∙ ap (λ (x : Words). build x (unfolded w)) (sym e))))
+  pub rows_more : Rows w m → size_word_at w (m + 1) ≡ size_word (build r (unfolded w)) → (below : ℕ) → below ≡ highest_part r → NoRow w below m r → Rows w (m + 1)
+  rows_more s size below hp none =
+      rows_add w m s (subst (RowOk w m) e ok)
+      (λ i l h p. none_like w m s.rows r (subst (λ (x : ℕ). NoRow w x m r) hp none) i l h (p ∙ sym e))
+      (size ∙ ap (λ (x : Words). size_word (build x (unfolded w))) e)
 
-    pub parts_low : not b ≡ false → (below : ℕ) → below ≡ highest_part r → below ≤ m
-    parts_low q below s = subst (λ (x : ℕ). x ≤ m) (sym s) (highest_low w m r (row_rules q))
-
-    pub rows_more : Rows w m → not b ≡ false → (a : Bool) → Decides (size_word_at w (m + 1) ≡ size_word (build r (unfolded w))) a → not a ≡ false
-        → (below : ℕ) → below ≡ highest_part r → (n : ℕ) → Found w below m r n → n ≡ 0 → Rows w (m + 1)
-    rows_more s q a g qa below hp n f z =
-        let past : Found w (highest_part r) m r n = subst (λ (x : ℕ). Found w x m r n) hp f in
-        rows_add w m s (subst (RowOk w m) e (row_rules q))
-        (λ i l h p. none_like w m s.rows r n past z i l h (p ∙ sym e))
-        (g.yes (not-false a qa) ∙ ap (λ (x : Words). size_word (build x (unfolded w))) e)
-
-  pub row_twice : (count below n : ℕ) → m < count → Found w below m r n → (n ≡ 0 → ⊥) → Decides (Table w count) false
-  row_twice count below n h f ne =
-      let l : 1 ≤ n = omega arith in
-      fails (λ t. let q : n ≡ m + 1 = t.distinct n (m + 1) l (omega (arith, f.high)) (omega arith) (omega arith) (f.found l ∙ e) in omega (arith, f.high))
+-- What a search says that finds none
+pub none_found : (w : List ℕ) (m count : ℕ) (r : Words) (found : Option ℕ) → Found w m count r found → is_some found ≡ false → NoRow w m count r
+none_found w m count r (Some n) f e = absurd (true≢false e)
+none_found w m count r None f e = f
 
 -- The rows that were passed are in the index
 pub index_start : (w : List ℕ) → RowsIndexed w 0 (replicate index_length 0)
@@ -55,27 +63,3 @@ index_start w = rows_indexed_none w (replicate index_length 0) (length-replicate
 
 pub index_more : {w b b' : List ℕ} {m : ℕ} {r : Words} → r ≡ row_at w (m + 1) → RowsIndexed w m b → b' ≡ with_row b (m + 1) r → RowsIndexed w (m + 1) b'
 index_more {w} {m = m} {r = r} e s q = subst (RowsIndexed w (m + 1)) (sym q) (rows_indexed_more s r (sym e))
-
-module _ (w : List ℕ) (count : ℕ) where
-  pub rows_few : count < 7 → Decides (Table w count) false
-  rows_few l = fails (λ t. omega (arith, t.seven))
-
-  pub rows_past : length w < row_width * count → Decides (Table w count) false
-  rows_past l = fails (λ t. omega (arith, t.room))
-
-  module _ (b : Bool) (d : Decides (FixedRows w) b) where
-    pub fixed_wrong : not b ≡ true → Decides (Table w count) false
-    fixed_wrong q = fails (λ t. d.no (not-true b q) t.fixed)
-
-    pub rows_all : count < 2 ^ 32 → 7 ≤ count → row_width * count ≤ length w → not b ≡ false → (m : ℕ) → Rows w m → count ≤ m → Decides (Table w count) true
-    rows_all small seven room q m s h =
-        holds
-        (record {
-          room = room;
-          small = small;
-          seven = seven;
-          fixed = d.yes (not-false b q);
-          rows = λ i l. s.rows i (omega arith);
-          distinct = λ i j li hi lj hj. s.distinct i j li (omega arith) lj (omega arith);
-          sizes = λ n l b. s.sizes n l (omega arith);
-        })

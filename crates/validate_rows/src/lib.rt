@@ -19,14 +19,7 @@ pub fn is_type(rows: &[u32], m: u32, v: u32) -> bool
     requires { row_width * m ≤ length rows.now }
     ensures { Decides (IsType rows.now m v) result }
 {
-    if v < 1 {
-        return false;
-    }
-    if m < v {
-        return false;
-    }
-    let row = row_at(rows, v);
-    row.kind <= DISTINCT_ALIAS
+    1 <= v && v <= m && row_at(rows, v).kind <= DISTINCT_ALIAS
 }
 
 // Whether v is 0, or a cell of that kind among the rows 1 to m.
@@ -34,27 +27,18 @@ fn is_cell(rows: &[u32], m: u32, kind: u32, v: u32) -> bool
     requires { row_width * m ≤ length rows.now }
     ensures { Decides (IsCell rows.now m kind v) result }
 {
-    if v < 1 {
-        return true;
-    }
-    if m < v {
-        return false;
-    }
-    let row = row_at(rows, v);
-    row.kind == kind
+    v == 0 || v <= m && row_at(rows, v).kind == kind
 }
 
 // What the first word of a row of that kind is.
 fn first_part(kind: u32) -> PartKind
     ensures { result ≡ first_part kind }
 {
-    if kind < POINTER {
-        return PartKind::Unused;
+    match kind {
+        ..POINTER => PartKind::Unused,
+        STRUCT => PartKind::Fields,
+        _ => PartKind::TypeRow,
     }
-    if kind == STRUCT {
-        return PartKind::Fields;
-    }
-    PartKind::TypeRow
 }
 
 // What the second word is.
@@ -87,19 +71,7 @@ fn is_part(rows: &[u32], m: u32, part: PartKind, v: u32) -> bool
 fn is_name(n: u32, kind: u32, name: u32) -> bool
     ensures { Decides (NameOk n kind name) result }
 {
-    if name < 1 {
-        return true;
-    }
-    if kind < ALIAS {
-        return false;
-    }
-    if FIELD < kind {
-        return false;
-    }
-    if name != STRING_NAME {
-        return true;
-    }
-    n == FIXED_COUNT
+    name == 0 || ALIAS <= kind && kind <= FIELD && (name != STRING_NAME || n == FIXED_COUNT)
 }
 
 // Whether the row may stand behind the rows 1 to m.
@@ -107,19 +79,11 @@ fn is_row(rows: &[u32], m: u32, row: Words) -> bool
     requires { (row_width * m ≤ length rows.now) × (m + 1 < 2 ^ 32) }
     ensures { Decides (RowOk rows.now m row) result }
 {
-    if row.kind < UNKNOWN {
-        return false;
-    }
-    if ARGUMENT < row.kind {
-        return false;
-    }
-    if !is_part(rows, m, first_part(row.kind), row.first) {
-        return false;
-    }
-    if !is_part(rows, m, second_part(row.kind), row.second) {
-        return false;
-    }
-    is_name(m + 1, row.kind, row.name)
+    UNKNOWN <= row.kind
+        && row.kind <= ARGUMENT
+        && is_part(rows, m, first_part(row.kind), row.first)
+        && is_part(rows, m, second_part(row.kind), row.second)
+        && is_name(m + 1, row.kind, row.name)
 }
 
 // Whether the fifth word of row m + 1, behind the rows 1 to m, is its size.
@@ -128,42 +92,27 @@ fn has_size(rows: &[u32], m: u32, row: Words) -> bool
     requires m_bound { m + 1 < 2 ^ 32 }
     ensures { Decides (size_word_at rows.now (m + 1) ≡ size_word (build row (unfolded rows.now))) result }
 {
-    let size = size_word(rows, m, row);
-    size_word_at(rows, m + 1) == size
+    size_word_at(rows, m + 1) == size_word(rows, m, row)
 }
 
 // Whether the table begins with the fixed rows.
+#[tactic(auto, using(crate::proofs::Tested::fixed_by))]
 fn has_fixed_rows(rows: &[u32]) -> bool
     requires { fixed_length ≤ length rows.now }
     ensures { Decides (FixedRows rows.now) result }
 {
-    let fixed = FIXED_WORDS;
-    let mut i = 0;
-    while i < FIXED_LENGTH {
-        if rows[i] != fixed[i] {
-            return false;
-        }
-        i += 1;
-    }
-    true
+    rows.starts_with(&FIXED_WORDS)
 }
 
 // Whether the first `count` rows obey the rules.
 pub fn is_table(rows: &[u32], count: u32) -> bool
     ensures { Decides (Table rows.now count) result }
 {
-    if count < FIXED_COUNT {
-        return false;
-    }
-    if rows.len() < ROW_WIDTH * (count as usize) {
-        return false;
-    }
-    if !has_fixed_rows(rows) {
+    if count < FIXED_COUNT || rows.len() < ROW_WIDTH * (count as usize) || !has_fixed_rows(rows) {
         return false;
     }
     let mut index = [0u16; row_index::LENGTH];
-    let mut m: u32 = 0;
-    while m < count {
+    for m in 0..count {
         let row = row_at(rows, m + 1);
         if !is_row(rows, m, row) {
             return false;
@@ -172,11 +121,10 @@ pub fn is_table(rows: &[u32], count: u32) -> bool
             return false;
         }
         let below = highest_part(row);
-        if row_index::find_twin(rows, &index, below, m, row) != 0 {
+        if row_index::find(rows, &index, below, m, row).is_some() {
             return false;
         }
         row_index::link(&mut index, m + 1, row);
-        m += 1;
     }
     true
 }

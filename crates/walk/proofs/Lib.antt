@@ -1,5 +1,6 @@
 pub mod Sets
 pub mod Laws
+pub mod Loans
 pub mod Making
 pub mod Walks
 pub mod Telling

@@ -8,11 +8,11 @@ use native.Mathlib.Omega.{arith}
 use lib.ListN.{length}
 use Rattle.types.specs.Ty.{Ty, member, parts}
 use Rattle.types.specs.Table.{row_width, unfolded, has_type, Table, IsType, IsCell}
-use Rattle.types.specs.Post.{type_of_row, PartsOk, Sort, Added, NoRoom, InternPost, count_after}
+use Rattle.types.specs.Post.{type_of_row, PartsOk, Sort, Added, NoRoom, InternPost}
 use Rattle.types.specs.declared.Row.{Row}
 use Rattle.types.specs.declared.Row.TheVariants.{Pointer, Array, Struct, Function, Alias, DistinctAlias, Field, Argument}
 use Rattle.types.specs.declared.Interned.{Interned}
-use Rattle.types.specs.declared.Interned.TheVariants.{At, Full}
+use Rattle.std.specs.Prelude.{Some, None}
 use Rattle.row_index.specs.Index.{with_rows}
 use Rattle.row_index.proofs.Additions.{rows_none}
 use Rattle.types.proofs.Grow.{extends_refl, extends_indexed}
@@ -130,17 +130,13 @@ module _ (w : List ℕ) (b : List ℕ) (st : State) (row : Row) (tb : Table w st
           does = record { does = λ o₀ e₀ before h. record { fits = λ p. both refl p; lacks = λ p. lack before st.full refl h } };
         }))
 
-  pub make_at : (w' b' : List ℕ) (i : Interned) (n c : ℕ) → InternPost w st.rows row w' i → b' ≡ with_rows b w' st.rows (count_after st.rows i) → i ≡ At n c
-      → Makes row w b st w' b' (record { ty = n; state = state st.errors c st.full })
-  make_at w' b' i n c h ix q =
-      let a = subst (InternPost w st.rows row w') q h in
-      let later = subst (λ (x : Interned). b' ≡ with_rows b w' st.rows (count_after st.rows x)) q ix in
-      record { answer = At n c; interned = a; result = refl; linked = later; made = λ work o e g. row_made w' n c a.0 later a.1 work o e g }
+  pub make_at : (w' b' : List ℕ) (i : Interned) → InternPost w st.rows row w' (Some i) → b' ≡ with_rows b w' st.rows i.count
+      → Makes row w b st w' b' (record { ty = i.number; state = state st.errors i.count st.full })
+  make_at w' b' i a later =
+      record { answer = Some i; interned = a; result = refl; linked = later; made = λ work o e g. row_made w' i.number i.count a.0 later a.1 work o e g }
 
-  pub make_full : (w' b' : List ℕ) (i : Interned) (n : ℕ) → InternPost w st.rows row w' i → b' ≡ with_rows b w' st.rows (count_after st.rows i) → i ≡ Full
+  pub make_full : (w' b' : List ℕ) (n : ℕ) → InternPost w st.rows row w' None → b' ≡ with_rows b w' st.rows st.rows
       → n ≡ substitute_for row → Makes row w b st w' b' (record { ty = n; state = state st.errors st.rows true })
-  make_full w' b' i n h ix q s =
-      let a = subst (InternPost w st.rows row w') q h in
-      let later = subst (λ (x : Interned). b' ≡ with_rows b w' st.rows (count_after st.rows x)) q ix in
+  make_full w' b' n a later s =
       subst (λ (x : ℕ). Makes row w b st w' b' (record { ty = x; state = state st.errors st.rows true })) (sym s)
-      (record { answer = Full; interned = a; result = refl; linked = later; made = λ work o e g. full_made w' a later work o e g })
+      (record { answer = None; interned = a; result = refl; linked = later; made = λ work o e g. full_made w' a later work o e g })

@@ -1,19 +1,8 @@
--- All that is lent to a walk, as contracts name it.
+-- All that is lent to a walk, as contracts name it: the working words, and what the walk holds.
 use Rattle.std.specs.Prelude.{ℕ, List}
-use Rattle.std.specs.Borrow.{MutBor}
-use denote.Triple.Both.{Both}
-use Rattle.contract.specs.Moments.{old, final}
 use Rattle.walk.specs.Represents.{Lent, lent}
-use Rattle.walk.specs.declared.State.{State}
+use Rattle.walk.specs.declared.Walk.{Walk}
 
--- in a `requires`
-abbrev pub given : (work : List ℕ) (output errors rows index : MutBor (List ℕ)) → State → Lent
-given work output errors rows index state = lent work output.now errors.now rows.now index.now state
-
--- in an `ensures`, at entry
-abbrev pub before : (work : List ℕ) (output errors rows index : Both (MutBor (List ℕ)) (MutBor (List ℕ))) → State → Lent
-before work output errors rows index state = lent work (old output) (old errors) (old rows) (old index) state
-
--- and at exit
-abbrev pub after : (work : List ℕ) (output errors rows index : Both (MutBor (List ℕ)) (MutBor (List ℕ))) → State → Lent
-after work output errors rows index state = lent work (final output) (final errors) (final rows) (final index) state
+-- At the moment at which the working words and the walk are these
+abbrev pub moment : (work : List ℕ) → Walk → Lent
+moment work walk = lent work walk.output.now walk.errors.now walk.rows.now walk.index.now walk.state

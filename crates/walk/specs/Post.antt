@@ -1,5 +1,5 @@
 -- What the steps promise, and the form of a walk's promise.
-use Rattle.std.specs.Prelude.{ℕ, ◌≡◌, true, false, List, [], ◌∷◌}
+use Rattle.std.specs.Prelude.{ℕ, ◌≡◌, true, false, Option, Some, None, List, [], ◌∷◌}
 use Rattle.types.specs.Ty.{Ty}
 use Rattle.types.specs.Table.{unfolded, IsType}
 use Rattle.types.specs.Post.{type_of_row, Sort, InternPost}
@@ -7,7 +7,6 @@ use Rattle.types.specs.declared.Row.{Row}
 use Rattle.types.specs.declared.Row.TheVariants.{Pointer, Array, Struct, Function, Alias, DistinctAlias, Field}
 use Rattle.types.specs.declared.Row.TheVariants.{Argument}
 use Rattle.types.specs.declared.Interned.{Interned}
-use Rattle.types.specs.declared.Interned.TheVariants.{At, Full}
 use Rattle.row_index.specs.Index.{with_rows}
 use Rattle.fallible.specs.declared.Error.{Error}
 use Rattle.fallible.specs.Errors.{error_list, pushed}
@@ -15,7 +14,7 @@ use Rattle.walk.specs.Effect.{Effect, meeting}
 use Rattle.meaning.specs.TypeError.{TypeError}
 use Rattle.walk.specs.Represents.{Lent, lent, Good, Grew, Frame, Told, Does, Typing}
 use Rattle.walk.specs.declared.State.{State}
-use Rattle.walk.specs.declared.Typed.{Typed}
+use Rattle.walk.specs.Typed.{Typed}
 
 -- What stands for a row that finds no room: Unknown for a type, no cells for a list
 abbrev pub substitute_for : Row → ℕ
@@ -36,13 +35,13 @@ pub record Made (row : Row) (C C' : Lent) (n : ℕ) : Type 0 where
   pub does : Does (meeting (type_of_row row (unfolded C.rows) ∷ []) 1) C C'
 
 -- The answer of `intern` as the result of `make`: past a lack of room the counts stay as they are
-abbrev pub result_of : Row → State → Interned → Typed
-result_of row state (At n count) = record { ty = n; state = record { errors = state.errors; rows = count; full = state.full } }
-result_of row state Full = record { ty = substitute_for row; state = record { errors = state.errors; rows = state.rows; full = true } }
+abbrev pub result_of : Row → State → Option Interned → Typed
+result_of row state (Some made) = record { ty = made.number; state = record { errors = state.errors; rows = made.count; full = state.full } }
+result_of row state None = record { ty = substitute_for row; state = record { errors = state.errors; rows = state.rows; full = true } }
 
 -- `make` does what `intern` does, and its effect is the same whatever else is lent
 pub record Makes (row : Row) (rows index : List ℕ) (state : State) (rows' index' : List ℕ) (r : Typed) : Type 0 where
-  pub answer : Interned
+  pub answer : Option Interned
   pub interned : InternPost rows state.rows row rows' answer
   pub result : r ≡ result_of row state answer
   pub linked : index' ≡ with_rows index rows' state.rows r.state.rows

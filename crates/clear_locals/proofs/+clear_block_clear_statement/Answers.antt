@@ -1,21 +1,14 @@
 use native.Mathlib.Omega.{arith}
 use mathlib.Core.Path.{ap}
-use Rattle.divergence.proofs.Walk.{held_level, held_fine}
 use Rattle.clear_locals.proofs.Walks as laws
 use Prim.Native.Nat.{◌+◌}
 use Rattle.clear_locals.proofs.+clear_block_clear_statement.Goals as goal
-
-pub clear_block-loop-at-init : goal.clear_block-loop-at-init
-clear_block-loop-at-init t c = laws.block_start c.requires.fine_nodes
 
 pub clear_block-clear_statement-requires : goal.clear_block-clear_statement-requires
 clear_block-clear_statement-requires t c = (omega arith, (laws.block_first c.loop-at.invariant c.loop-at-test.true, omega (arith, c.requires.s_in_bounds, c.loop-at.invariant.wide)))
 
 pub clear_block-length_at-at-requires : goal.clear_block-length_at-at-requires
 clear_block-length_at-at-requires t c = let b = laws.block_bounds c.loop-at.invariant c.loop-at-test.true in omega (arith, b.head, b.stop)
-
-pub clear_block-overflow_add-at : goal.clear_block-overflow_add-at
-clear_block-overflow_add-at t c = let b = laws.block_bounds c.loop-at.invariant c.loop-at-test.true in omega (arith, b.stop, b.few, c.length_at-at.ensures.is)
 
 pub clear_block-loop-at-smaller : goal.clear_block-loop-at-smaller
 clear_block-loop-at-smaller t c = let b = laws.block_bounds c.loop-at.invariant c.loop-at-test.true in omega (arith, b.head, c.loop-at-test.true, c.length_at-at.ensures.is)
@@ -26,9 +19,6 @@ clear_block-loop-at-preserved t c = laws.block_on c.loop-at.invariant c.loop-at-
 pub clear_block-returns : goal.clear_block-returns
 clear_block-returns t c = laws.block_done c.loop-at.invariant c.loop-at-test.false
 
-pub clear_statement-inner_statements-inner-requires : goal.clear_statement-inner_statements-inner-requires
-clear_statement-inner_statements-inner-requires t c = c.requires.fine_node
-
 pub clear_statement-word-name-requires : goal.clear_statement-word-name-requires
 clear_statement-word-name-requires t c = let r = laws.variable_named c.requires.fine_node c.inner_statements-inner.ensures c.if-inner-eq-VARIABLE_DECLARATION.true in omega (arith, r.bytes)
 
@@ -37,12 +27,6 @@ clear_statement-set_word-requires t c = let r = laws.variable_named c.requires.f
 
 pub clear_statement-returns-then-inner-eq-VARIABLE_DECLARATION : goal.clear_statement-returns-then-inner-eq-VARIABLE_DECLARATION
 clear_statement-returns-then-inner-eq-VARIABLE_DECLARATION t c = laws.variable_cleared c.requires.fine_node c.inner_statements-inner.ensures c.if-inner-eq-VARIABLE_DECLARATION.true c.word-name.ensures _ c.set_word.ensures
-
-pub clear_statement-children-requires : goal.clear_statement-children-requires
-clear_statement-children-requires t c = let o = c.inner_statements-inner.ensures in omega (arith, o.levels, o.deep)
-
-pub clear_statement-clear_block-requires : goal.clear_statement-clear_block-requires
-clear_statement-clear_block-requires t c = let o = c.inner_statements-inner.ensures in let p = c.requires in let q = c.children.ensures in (omega (arith, o.deep, held_level _ _ _ p.fine_node _ o q), (held_fine _ _ _ p.fine_node _ o q, p.s_in_bounds))
 
 pub clear_statement-returns : goal.clear_statement-returns
 clear_statement-returns t c = let o = c.inner_statements-inner.ensures in let f = c.requires.fine_node in laws.others_cleared f o c.if-inner-eq-VARIABLE_DECLARATION.false c.children.ensures _ c.clear_block.ensures

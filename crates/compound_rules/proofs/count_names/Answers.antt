@@ -6,17 +6,11 @@ use Rattle.compound_rules.proofs.count_names.Goals as goal
 pub loop-at-init : goal.loop-at-init
 loop-at-init c = search tables.tallying_start
 
-pub overflow_add-at : goal.overflow_add-at
-overflow_add-at c = search chains.slot_small
-
 pub word-requires : goal.word-requires
 word-requires c = search tables.tally_word
 
 pub length_at-at-requires : goal.length_at-at-requires
 length_at-at-requires c = search chains.head_inside
-
-pub overflow_add-at-in-loop-at : goal.overflow_add-at-in-loop-at
-overflow_add-at-in-loop-at c = search chains.next_small
 
 pub loop-at-smaller : goal.loop-at-smaller
 loop-at-smaller c = search chains.next_less

@@ -1,7 +1,8 @@
 -- `convert_node_type`, `convert_fields` and the functions of the kinds with parts call each other with the depth falling; in a list the bytes left fall.
 use Rattle.std.proofs.Common.{◌-◌, ◌+◌, ◌*◌}
 use Rattle.convert.specs.Chunk.{chunk, FieldsConvertedTo}
-use Rattle.walk.specs.Represents.{lent}
+use Rattle.walk.specs.Moments.{moment}
+use Rattle.walk.specs.Loans.{SameLoans}
 use Rattle.convert.proofs.+convert_array_convert_chunk_convert_fields_convert_node_type_convert_others_convert_pointer_convert_struct.Given as goal
 
 abbrev pub decreases-convert_array : goal.decreases-convert_array
@@ -27,7 +28,8 @@ decreases-convert_struct l = l.node.depth * 262144
 
 abbrev pub invariant-convert_chunk-loop-count : goal.invariant-convert_chunk-loop-count
 invariant-convert_chunk-loop-count l =
-    FieldsConvertedTo l.s l.pass (record { from = l.initial.from; end = l.end; depth = l.depth }) l.kept (lent l.work l.initial.output l.initial.errors l.initial.rows l.initial.index l.initial.state) (lent l.work l.output l.errors l.rows l.index l.state) l.count l.from
+    FieldsConvertedTo l.s l.pass (record { from = l.initial.from; end = l.end; depth = l.depth }) l.kept (moment l.work l.initial.walk) (moment l.work l.walk) l.count l.from
+    × SameLoans l.initial.walk l.walk
 
 abbrev pub decreases-convert_chunk-loop-count : goal.decreases-convert_chunk-loop-count
 decreases-convert_chunk-loop-count l = chunk - l.count

@@ -1,8 +1,8 @@
 use Rattle.convert.proofs.Leaves as leaves
 use Rattle.convert.proofs.named_type.Goals as goal
 
-pub returns-then-found-gt0 : goal.returns-then-found-gt0
-returns-then-found-gt0 c = search leaves.named_found
+pub returns-then-found-gt0-clause-effect : goal.returns-then-found-gt0-clause-effect
+returns-then-found-gt0-clause-effect c = search leaves.named_found
 
-pub returns : goal.returns
-returns c = search leaves.named_unknown
+pub returns-clause-effect : goal.returns-clause-effect
+returns-clause-effect c = search leaves.named_unknown

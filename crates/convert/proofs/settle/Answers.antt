@@ -1,8 +1,8 @@
 use Rattle.convert.proofs.Leaves as leaves
 use Rattle.convert.proofs.settle.Goals as goal
 
-pub returns-then-not-fill : goal.returns-then-not-fill
-returns-then-not-fill c = search leaves.settle_kept
+pub returns-else-fill-clause-effect : goal.returns-else-fill-clause-effect
+returns-else-fill-clause-effect c = search leaves.settle_kept
 
-pub returns : goal.returns
-returns c = search leaves.settle_stored
+pub returns-then-fill-clause-effect : goal.returns-then-fill-clause-effect
+returns-then-fill-clause-effect c = search leaves.settle_stored

@@ -4,5 +4,5 @@ use Rattle.descriptions.proofs.operator_length.Goals as goal
 pub returns-then-operator-lt-FIRST_OF_TWO : goal.returns-then-operator-lt-FIRST_OF_TWO
 returns-then-operator-lt-FIRST_OF_TWO c = search laws.length_one
 
-pub returns : goal.returns
-returns c = search laws.length_two
+pub returns-else-operator-lt-FIRST_OF_TWO : goal.returns-else-operator-lt-FIRST_OF_TWO
+returns-else-operator-lt-FIRST_OF_TWO c = search laws.length_two

@@ -1,18 +1,27 @@
 -- A law for each kind.
+use Rattle.std.proofs.Common.{◌≤◌, ◌<◌, ◌≡◌, arith, rules}
 use Rattle.display.proofs.PartRows as laws
 use Rattle.display.proofs.first_part.Goals as goal
 
-pub returns-then-kind-lt-POINTER : goal.returns-then-kind-lt-POINTER
-returns-then-kind-lt-POINTER c = search laws.first_low
+pub part-requires : goal.part-requires
+part-requires c =
+    let first : 1 ≤ c.kind.result = search laws.first_kind in
+    let kind : 6 ≤ c.kind.result = omega arith in
+    search rules
 
-pub returns-then-kind-eq-STRUCT : goal.returns-then-kind-eq-STRUCT
-returns-then-kind-eq-STRUCT c = search laws.first_fields
+pub returns-in_default : goal.returns-in_default
+returns-in_default c =
+    let first : 1 ≤ c.kind.result = search laws.first_kind in
+    let kind : 6 ≤ c.kind.result = omega arith in
+    search laws.first_type_lem
 
-pub returns-then-kind-eq-FUNCTION : goal.returns-then-kind-eq-FUNCTION
-returns-then-kind-eq-FUNCTION c = search laws.first_arguments
+pub returns-in-1-to-5 : goal.returns-in-1-to-5
+returns-in-1-to-5 c =
+    let kind : c.kind.result ≡ 11 = omega arith in
+    let high : 6 ≤ c.kind.result = omega arith in
+    search laws.first_distinct
 
-pub returns-then-kind-eq-DISTINCT_ALIAS : goal.returns-then-kind-eq-DISTINCT_ALIAS
-returns-then-kind-eq-DISTINCT_ALIAS c = search laws.first_distinct
-
-pub returns : goal.returns
-returns c = search laws.first_type_lem
+pub returns-in-1-to-5-2 : goal.returns-in-1-to-5-2
+returns-in-1-to-5-2 c =
+    let kind : c.kind.result < 6 = omega arith in
+    search laws.first_low

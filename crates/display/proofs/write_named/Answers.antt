@@ -1,21 +1,14 @@
 -- A law for each kind.
+use Rattle.std.proofs.Common.{◌≤◌, ◌<◌, arith}
 use Rattle.display.proofs.Openings as laws
 use Rattle.display.proofs.write_named.Goals as goal
 
-pub put-end-requires : goal.put-end-requires
-put-end-requires c = search laws.name_fits
+pub returns-in-10 : goal.returns-in-10
+returns-in-10 c =
+    let kind : c.args.kind < 11 = omega arith in
+    search laws.alias_written
 
-pub put-requires : goal.put-requires
-put-requires c = search laws.alias_fits
-
-pub returns-then-kind-lt-DISTINCT_ALIAS : goal.returns-then-kind-lt-DISTINCT_ALIAS
-returns-then-kind-lt-DISTINCT_ALIAS c = search laws.alias_written
-
-pub returns-then-kind-lt-FIELD : goal.returns-then-kind-lt-FIELD
-returns-then-kind-lt-FIELD c = search laws.distinct_written
-
-pub put-requires-2 : goal.put-requires-2
-put-requires-2 c = search laws.field_fits
-
-pub returns : goal.returns
-returns c = search laws.field_written
+pub returns-in_default : goal.returns-in_default
+returns-in_default c =
+    let kind : 12 ≤ c.args.kind = omega arith in
+    search laws.field_written

@@ -1,7 +1,8 @@
 -- The measure is four times the levels left, and a rank: a list, then an expression, then the function of its shape.
 -- The loop: what is left to do does what is left of the whole.
-use Rattle.std.proofs.Common.{◌-◌, ◌≡◌, ◌+◌, ◌*◌, length}
-use Rattle.walk.specs.Represents.{lent}
+use Rattle.std.proofs.Common.{◌-◌, ◌+◌, ◌*◌}
+use Rattle.walk.specs.Moments.{moment}
+use Rattle.walk.specs.Loans.{SameLoans}
 use Rattle.expression.proofs.Lists as lists
 use Rattle.expression.proofs.+call_cast_one_operand_two_operands_type_check_expression_type_check_expressions.Given as goal
 
@@ -25,7 +26,7 @@ decreases-type_check_expressions l = 4 * l.list.depth + 3
 
 abbrev pub invariant-type_check_expressions-loop-at : goal.invariant-type_check_expressions-loop-at
 invariant-type_check_expressions-loop-at l =
-    lists.Checking l.s l.names l.depth l.end l.initial.at (lent l.work l.initial.output l.initial.errors l.initial.rows l.initial.index l.initial.next) l.at (lent l.work l.output l.errors l.rows l.index l.next) × (length l.errors ≡ length l.initial.errors)
+    lists.Checking l.s l.names l.depth l.list.end l.initial.at (moment l.work l.initial.walk) l.at (moment l.work l.walk) × SameLoans l.initial.walk l.walk
 
 abbrev pub decreases-type_check_expressions-loop-at : goal.decreases-type_check_expressions-loop-at
-decreases-type_check_expressions-loop-at l = l.end - l.at
+decreases-type_check_expressions-loop-at l = l.list.end - l.at

@@ -4,9 +4,3 @@ use Rattle.expression_rules.proofs.computes.Goals as goal
 
 pub returns-then-is_integral : goal.returns-then-is_integral
 returns-then-is_integral c = search exits.computes_integers
-
-pub returns-then-kind-ne-POINTER : goal.returns-then-kind-ne-POINTER
-returns-then-kind-ne-POINTER c = search exits.computes_neither
-
-pub returns : goal.returns
-returns c = search exits.computes_pointer

@@ -2,8 +2,8 @@
 use Rattle.expression_rules.proofs.Exits as exits
 use Rattle.expression_rules.proofs.integer.Goals as goal
 
-pub returns-in-Value : goal.returns-in-Value
-returns-in-Value c = search exits.literal_read
+pub returns-in-Some-clause-effect : goal.returns-in-Some-clause-effect
+returns-in-Some-clause-effect c = search exits.literal_read
 
-pub returns-in-Invalid : goal.returns-in-Invalid
-returns-in-Invalid c = search exits.literal_invalid
+pub returns-in-None-clause-effect : goal.returns-in-None-clause-effect
+returns-in-None-clause-effect c = search exits.literal_none

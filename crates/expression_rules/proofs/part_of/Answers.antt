@@ -2,8 +2,5 @@
 use Rattle.expression_rules.proofs.Exits as exits
 use Rattle.expression_rules.proofs.part_of.Goals as goal
 
-pub returns-then-kind : goal.returns-then-kind
-returns-then-kind c = search exits.part_same
-
-pub returns : goal.returns
-returns c = search exits.part_none
+pub returns-else-kind : goal.returns-else-kind
+returns-else-kind c = search exits.part_none

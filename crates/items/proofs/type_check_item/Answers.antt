@@ -2,8 +2,8 @@ use Rattle.items.proofs.Items as laws
 use native.Mathlib.Omega.{arith}
 use Rattle.items.proofs.type_check_item.Goals as goal
 
-pub half-kind-requires : goal.half-kind-requires
-half-kind-requires c = omega (arith, laws.item_room c.requires.fine_node)
+pub half-requires : goal.half-requires
+half-requires c = omega (arith, laws.item_room c.requires.fine_node)
 
-pub returns-in_default : goal.returns-in_default
-returns-in_default c = laws.other_checked c.requires.fine_node c.requires.ready _ c.half-kind.ensures c.in_default.in_default-own.rest.0.0.1 c.in_default.in_default-own.rest.0.1 c.in_default.in_default-own.rest.1
+pub returns-in_default-clause-effect : goal.returns-in_default-clause-effect
+returns-in_default-clause-effect c = search laws.other_checked

@@ -12,17 +12,14 @@ length_at-requires c = omega (arith, laws.item_room c.requires.fine_node.0)
 pub overflow_sub-depth : goal.overflow_sub-depth
 overflow_sub-depth c = omega (arith, (laws.variable_room c.requires.fine_node.0 c.requires.fine_node.1).deep)
 
-pub convert_node_type-declared-requires : goal.convert_node_type-declared-requires
-convert_node_type-declared-requires c = record { fine_node = (laws.variable c.requires.fine_node.0 c.requires.fine_node.1).parts.type; ready = c.requires.ready }
+pub convert_node_type-ty-requires : goal.convert_node_type-ty-requires
+convert_node_type-ty-requires c = record { fine_node = (laws.variable c.requires.fine_node.0 c.requires.fine_node.1).parts.type; ready = c.requires.ready }
 
 pub length_at-requires-2 : goal.length_at-requires-2
 length_at-requires-2 c = let r = laws.variable_room c.requires.fine_node.0 c.requires.fine_node.1 in omega (arith, r.type, r.fits, r.ends)
 
-pub overflow_add-from : goal.overflow_add-from
-overflow_add-from c = let r = laws.variable_room c.requires.fine_node.0 c.requires.fine_node.1 in omega (arith, r.type, r.fits, r.ends, r.few, c.length_at-2.ensures.is)
-
 pub type_check_initial-requires : goal.type_check_initial-requires
-type_check_initial-requires c = record { fine_list = laws.value_fine c.requires.fine_node.0 c.requires.fine_node.1 {start = _} refl (heads.stops_at _ _ _ c.length_at-2.ensures) (heads.stops_at _ _ _ c.length_at.ensures); ready = ready_later c.requires.ready c.convert_node_type-declared.ensures.walked.walked.grew c.convert_node_type-declared.ensures.walked.walked.frame.long; one_type = one_type c.convert_node_type-declared.ensures.walked.walked.grew.good c.convert_node_type-declared.ensures.walked.is }
+type_check_initial-requires c = record { fine_list = laws.value_fine c.requires.fine_node.0 c.requires.fine_node.1 {start = _} refl (heads.stops_at _ _ _ c.length_at-2.ensures) (heads.stops_at _ _ _ c.length_at.ensures); ready = ready_later c.requires.ready c.convert_node_type-ty.ensures.effect.walked.walked.grew c.convert_node_type-ty.ensures.effect.walked.walked.frame.long; one_type = one_type c.convert_node_type-ty.ensures.effect.walked.walked.grew.good c.convert_node_type-ty.ensures.effect.walked.is }
 
-pub returns : goal.returns
-returns c = laws.variable_checked c.requires.fine_node.0 c.requires.fine_node.1 refl (heads.stops_at _ _ _ c.length_at-2.ensures) (heads.stops_at _ _ _ c.length_at.ensures) c.convert_node_type-declared.ensures c.type_check_initial.ensures
+pub returns-clause-effect : goal.returns-clause-effect
+returns-clause-effect c = laws.variable_checked c.requires.fine_node.0 c.requires.fine_node.1 refl (heads.stops_at _ _ _ c.length_at-2.ensures) (heads.stops_at _ _ _ c.length_at.ensures) c.convert_node_type-ty.ensures.effect c.type_check_initial.ensures.effect

@@ -29,4 +29,4 @@ pub returns-then-is_bad-2 : goal.returns-then-is_bad-2
 returns-then-is_bad-2 c = laws.head_second _ _ _ _ _ _ c.length_at-len.ensures.is c.if-room-lt-HEAD_END.false _ _ c.half.ensures.is c.shape_of-shape.ensures.is c.if-room-len.false c.if-len-fields.false _ c.may_stand.ensures (ap not c.if-not-may_stand.false) _ c.is_bad.ensures c.if-is_bad.false _ c.is_bad-2.ensures c.if-is_bad-2.true
 
 pub returns : goal.returns
-returns c = laws.head_good _ _ _ _ _ _ c.length_at-len.ensures.is c.if-room-lt-HEAD_END.false _ _ c.half.ensures.is c.shape_of-shape.ensures.is c.if-room-len.false c.if-len-fields.false _ c.may_stand.ensures (ap not c.if-not-may_stand.false) _ c.is_bad.ensures c.if-is_bad.false _ c.is_bad-2.ensures _ c.if-is_bad-2.false c.state_after-next.ensures
+returns c = laws.head_good _ _ _ _ _ _ c.length_at-len.ensures.is c.if-room-lt-HEAD_END.false _ _ c.half.ensures.is c.shape_of-shape.ensures.is c.if-room-len.false c.if-len-fields.false _ c.may_stand.ensures (ap not c.if-not-may_stand.false) _ c.is_bad.ensures c.if-is_bad.false _ c.is_bad-2.ensures _ c.if-is_bad-2.false c.state_after.ensures

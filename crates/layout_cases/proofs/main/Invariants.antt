@@ -1,9 +1,6 @@
--- The base keeps its room, and no more of it is used.
-use Rattle.std.proofs.Common.{◌≡◌, ◌≤◌, length}
+-- No more of the base is used than it has room.
+use Rattle.std.proofs.Common.{◌≤◌}
 use Rattle.layout_cases.proofs.main.Given as goal
 
-abbrev pub invariant-loop-left : goal.invariant-loop-left
-invariant-loop-left l = (length l.base ≡ 70000) × (l.n ≤ 70000)
-
-abbrev pub decreases-loop-left : goal.decreases-loop-left
-decreases-loop-left l = l.left
+abbrev pub invariant-loop : goal.invariant-loop
+invariant-loop l = l.n ≤ 70000

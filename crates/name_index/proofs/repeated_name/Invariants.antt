@@ -2,8 +2,8 @@ use Prim.Native.Nat.{◌-◌}
 use Rattle.name_index.proofs.IndexLaws as laws
 use Rattle.name_index.proofs.repeated_name.Given as goal
 
-abbrev pub invariant-loop-at : goal.invariant-loop-at
-invariant-loop-at l = laws.Indexing l.s l.end l.at l.index
+abbrev pub invariant-loop-next : goal.invariant-loop-next
+invariant-loop-next l = laws.Indexing l.s l.end l.at l.index
 
-abbrev pub decreases-loop-at : goal.decreases-loop-at
-decreases-loop-at l = l.end - l.at
+abbrev pub decreases-loop-next : goal.decreases-loop-next
+decreases-loop-next l = l.end - l.at

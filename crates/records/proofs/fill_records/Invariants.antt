@@ -1,11 +1,7 @@
 -- The loop: the first records are those of the words, the others as they were.
 use mathlib.Core.Path.{◌≡◌}
-use Prim.Native.Nat.{◌-◌, ◌≤◌}
 use Rattle.records.specs.Records.{records_from}
 use Rattle.records.proofs.fill_records.Given as goal
 
 abbrev pub invariant-loop-i : goal.invariant-loop-i
-invariant-loop-i l = (l.records ≡ records_from l.words l.i l.initial.records) × (l.i ≤ l.count)
-
-abbrev pub decreases-loop-i : goal.decreases-loop-i
-decreases-loop-i l = l.count - l.i
+invariant-loop-i l = l.records ≡ records_from l.words l.i l.initial.records

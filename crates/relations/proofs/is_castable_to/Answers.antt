@@ -1,11 +1,17 @@
-use Rattle.relations.proofs.StripLaws.{last_fit, target_fits_lem, source_decides}
+use mathlib.Core.Path.{sym, ◌∙◌}
+use mathlib.Core.Bool.{true≢false}
+use Rattle.relations.proofs.StripLaws as laws
 use Rattle.relations.proofs.is_castable_to.Goals as goal
-
-pub returns-then-cast_fits : goal.returns-then-cast_fits
-returns-then-cast_fits c = search last_fit
+use Rattle.relations.proofs.is_castable_to.Goals.{then-cast_fits, else-cast_fits}
 
 pub returns-then-is_strip_of : goal.returns-then-is_strip_of
-returns-then-is_strip_of c = search target_fits_lem
+returns-then-is_strip_of c = c.if-is_strip_of.true ∙ elim c.if-cast_fits.branch [
+  | then-cast_fits w ↦ laws.last_fit _ _ _ _ _ _ c.last_strip-from.ensures c.last_strip-to.ensures _ c.cast_fits.ensures w.if-cast_fits.true
+  | else-cast_fits w ↦ laws.target_fits_lem _ _ _ _ _ _ c.last_strip-from.ensures c.last_strip-to.ensures _ c.cast_fits.ensures w.if-cast_fits.false _ w.is_strip_of.ensures (sym w.value-is ∙ c.if-is_strip_of.true)
+]
 
-pub returns : goal.returns
-returns c = search source_decides
+pub returns-else-is_strip_of : goal.returns-else-is_strip_of
+returns-else-is_strip_of c = elim c.if-cast_fits.branch [
+  | then-cast_fits w ↦ absurd (true≢false (sym w.if-cast_fits.true ∙ sym w.value-is ∙ c.if-is_strip_of.false))
+  | else-cast_fits w ↦ laws.source_decides _ _ _ _ _ _ c.last_strip-from.ensures c.last_strip-to.ensures _ c.cast_fits.ensures w.if-cast_fits.false _ w.is_strip_of.ensures (sym w.value-is ∙ c.if-is_strip_of.false) _ c.is_strip_of-else-is_strip_of.ensures
+]

@@ -1,11 +1,12 @@
+use native.Mathlib.Omega.{arith}
 use Rattle.relations.proofs.WordLaws.{size_known, size_large, size_unknown}
 use Rattle.relations.proofs.word_size.Goals as goal
 
-pub returns-then-word-le-LARGEST : goal.returns-then-word-le-LARGEST
-returns-then-word-le-LARGEST c = search size_known
+pub returns-in-0-to-65535 : goal.returns-in-0-to-65535
+returns-in-0-to-65535 c = size_known _ _ _ c.requires _ c.words.ensures (omega arith)
 
-pub returns-then-word-eq-TOO_LARGE_WORD : goal.returns-then-word-eq-TOO_LARGE_WORD
-returns-then-word-eq-TOO_LARGE_WORD c = search size_large
+pub returns-in-65536 : goal.returns-in-65536
+returns-in-65536 c = search size_large
 
-pub returns : goal.returns
-returns c = search size_unknown
+pub returns-in_default : goal.returns-in_default
+returns-in_default c = search size_unknown

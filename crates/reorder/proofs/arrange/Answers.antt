@@ -10,8 +10,8 @@ slice_bounds-copy_to-end c = search laws.head_count
 pub copy_to-requires : goal.copy_to-requires
 copy_to-requires c = search laws.head_room
 
-pub loop-next-init : goal.loop-next-init
-loop-next-init c = search laws.arranging_start
+pub loop-at-init : goal.loop-at-init
+loop-at-init c = search laws.arranging_start
 
 pub length_at-requires : goal.length_at-requires
 length_at-requires c = search laws.arranging_fits
@@ -19,14 +19,14 @@ length_at-requires c = search laws.arranging_fits
 pub overflow_add-stop : goal.overflow_add-stop
 overflow_add-stop c = search laws.arranging_small
 
-pub copy_to-requires-in-loop-next : goal.copy_to-requires-in-loop-next
-copy_to-requires-in-loop-next c = search laws.arranging_room
+pub copy_to-requires-in-loop-at : goal.copy_to-requires-in-loop-at
+copy_to-requires-in-loop-at c = search laws.arranging_room
 
-pub loop-next-preserved : goal.loop-next-preserved
-loop-next-preserved c = search laws.arranging_on
+pub loop-at-preserved : goal.loop-at-preserved
+loop-at-preserved c = search laws.arranging_on
 
 pub returns : goal.returns
 returns c = search laws.arranging_end
 
-pub slice_bounds-copy_to-end-in-loop-next : goal.slice_bounds-copy_to-end-in-loop-next
-slice_bounds-copy_to-end-in-loop-next c = search laws.arranging_stops
+pub slice_bounds-copy_to-end-in-loop-at : goal.slice_bounds-copy_to-end-in-loop-at
+slice_bounds-copy_to-end-in-loop-at c = search laws.arranging_stops

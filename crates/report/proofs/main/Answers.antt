@@ -1,7 +1,10 @@
 -- An accepted module has no more errors than the list has records.
-use Rattle.records.proofs.Promise.{errors_fit}
+use Rattle.std.proofs.Common.{length-take-le, sym}
 use Rattle.report.proofs.LineLaws.{errors_there}
 use Rattle.report.proofs.main.Goals as goal
 
-pub print_accepted-requires : goal.print_accepted-requires
-print_accepted-requires c = (errors_fit c.report_module-report.ensures c.in-Accepted.is, errors_there c.report_module-report.ensures c.in-Accepted.is)
+pub slice_bounds-errors-end : goal.slice_bounds-errors-end
+slice_bounds-errors-end c = errors_there c.in-Ok.ensures
+
+pub slice_bounds-print_accepted-end : goal.slice_bounds-print_accepted-end
+slice_bounds-print_accepted-end c = sym (length-take-le _ _ (errors_there c.in-Ok.ensures))

@@ -1,26 +1,16 @@
-use Rattle.std.proofs.Common.{arith}
 use Rattle.program_support.proofs.BufferLaws.{on_err}
-use Rattle.report.proofs.LineLaws as lines
+use Rattle.report.proofs.LineLaws.{errors_none, errors_more, errors_some}
 use Rattle.report.proofs.put_errors.Goals as goal
 
-pub loop-i-init : goal.loop-i-init
-loop-i-init g c = (omega arith, lines.errors_none c.args.errors c.args.buffer.now c.args.used)
+pub loop-error-init : goal.loop-error-init
+loop-error-init g c = errors_none c.args.errors.now c.args.lines.now
 
-pub returns-in_err-held-clause-err : goal.returns-in_err-held-clause-err
-returns-in_err-held-clause-err g c =
-    let l = c.loop-i in
-    on_err c.from_residual.result
-    (lines.errors_some c.args.errors _ c.args.buffer.now c.args.used l.i c.args.count l.buffer l.held c.put_error.new.buffer c.loop-i-test.true c.requires.1 l.invariant.1 c.in_err-held.ensures.err)
+pub returns-in_err-put_error-clause-err : goal.returns-in_err-put_error-clause-err
+returns-in_err-put_error-clause-err g c =
+    let l = c.loop-error in
+    on_err c.from_residual.result (errors_some c.args.errors.now l.error-index _ c.loop-error-test.true l.invariant c.in_err-put_error.ensures.err)
 
-pub loop-i-preserved : goal.loop-i-preserved
-loop-i-preserved g c =
-    let l = c.loop-i in (
-      omega arith,
-      lines.errors_more c.args.errors _ c.args.buffer.now c.args.used l.i c.args.count l.buffer l.held c.put_error.new.buffer c.in_ok-held.held c.loop-i-test.true c.requires.1 l.invariant.1
-          c.in_ok-held.ensures.ok,
-    )
-
-pub returns-clause-ok : goal.returns-clause-ok
-returns-clause-ok g c =
-    let l = c.loop-i in
-    lines.errors_all c.args.errors c.args.buffer.now c.args.used l.i c.args.count l.buffer l.held (omega arith) l.invariant.1
+pub loop-error-preserved : goal.loop-error-preserved
+loop-error-preserved g c =
+    let l = c.loop-error in
+    errors_more c.args.errors.now l.error-index _ c.loop-error-test.true l.invariant c.in_ok-put_error.ensures.ok

@@ -1,11 +1,8 @@
--- The lines of the errors before i were put.
-use Rattle.std.proofs.Common.{take, ◌-◌, ◌≤◌}
-use Rattle.program_support.specs.Buffer.{PutAll}
+-- The lines of the errors before this one were put.
+use Rattle.std.proofs.Common.{take}
+use Rattle.program_support.specs.Lines.{Puts}
 use Rattle.report.specs.Lines.{error_lines}
 use Rattle.report.proofs.put_errors.Given as goal
 
-abbrev pub invariant-loop-i : goal.invariant-loop-i
-invariant-loop-i g l = (l.i ≤ l.count) × PutAll (error_lines (take l.i l.fn.errors)) l.initial.buffer l.used l.buffer l.held
-
-abbrev pub decreases-loop-i : goal.decreases-loop-i
-decreases-loop-i g l = l.count - l.i
+abbrev pub invariant-loop-error : goal.invariant-loop-error
+invariant-loop-error g l = Puts (error_lines (take l.error-index l.errors)) l.initial.lines l.lines

@@ -1,34 +1,8 @@
 use Rattle.row_index.proofs.Index as laws
-use native.Mathlib.Omega.{arith}
-use borrow.Author.Rules.{rules}
 use Rattle.row_index.proofs.follow.Goals as goal
 
-pub overflow_cast-n : goal.overflow_cast-n
-overflow_cast-n c = let index = c.requires.rows_indexed in omega (arith, (index.head _ c.bucket_of.ensures.1).low, index.fits)
+pub loop-init : goal.loop-init
+loop-init c = laws.following_start _ _ _ _ _ c.requires.rows_indexed _ c.bucket_of.ensures.0 c.bucket_of.ensures.1
 
-pub loop-n-init : goal.loop-n-init
-loop-n-init c = laws.following_start _ _ _ _ _ c.requires.rows_indexed _ c.bucket_of.ensures.0 c.bucket_of.ensures.1
-
-pub row_at-requires : goal.row_at-requires
-row_at-requires c = let h = laws.following_low _ _ _ _ _ _ c.loop-n.invariant c.loop-n-test.true in search rules
-
-pub returns-then-alike : goal.returns-then-alike
-returns-then-alike c = laws.followed_here _ _ _ _ _ _ c.loop-n.invariant c.loop-n-test.true _ c.row_at.ensures _ c.alike.ensures c.if-alike.true
-
-pub returns-then-left-eq0 : goal.returns-then-left-eq0
-returns-then-left-eq0 c = laws.followed_rest _ _ _ _ _ _ c.loop-n.invariant _ c.find.ensures
-
-pub bounds-index-n : goal.bounds-index-n
-bounds-index-n c = let h = laws.following_place _ _ _ _ _ _ c.loop-n.invariant c.loop-n-test.true in search rules
-
-pub overflow_cast-n-in-loop-n-2 : goal.overflow_cast-n-in-loop-n-2
-overflow_cast-n-in-loop-n-2 c = omega (arith, laws.following_less _ _ _ _ _ _ c.loop-n.invariant c.loop-n-test.true)
-
-pub loop-n-smaller : goal.loop-n-smaller
-loop-n-smaller c = laws.following_less _ _ _ _ _ _ c.loop-n.invariant c.loop-n-test.true
-
-pub loop-n-preserved : goal.loop-n-preserved
-loop-n-preserved c = laws.following_on _ _ _ _ _ _ c.loop-n.invariant c.loop-n-test.true _ c.row_at.ensures _ c.alike.ensures c.if-alike.false
-
-pub returns : goal.returns
-returns c = laws.followed_none _ _ _ _ _ _ c.loop-n.invariant c.loop-n-test.false
+pub loop-preserved : goal.loop-preserved
+loop-preserved c = laws.following_on _ _ _ _ _ _ c.loop.invariant c.if-n-m.false _ c.row_at.ensures _ c.alike.ensures c.if-alike.false

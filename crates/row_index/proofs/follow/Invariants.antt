@@ -2,8 +2,5 @@
 use Rattle.row_index.proofs.Index as laws
 use Rattle.row_index.proofs.follow.Given as goal
 
-abbrev pub invariant-loop-n : goal.invariant-loop-n
-invariant-loop-n l = laws.Following l.rows l.index l.m l.count l.row l.n
-
-abbrev pub decreases-loop-n : goal.decreases-loop-n
-decreases-loop-n l = l.n
+abbrev pub invariant-loop : goal.invariant-loop
+invariant-loop l = laws.Following l.rows l.index l.m l.count l.row l.n

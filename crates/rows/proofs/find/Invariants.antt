@@ -3,8 +3,8 @@ use Rattle.rows.proofs.Search as laws
 use Prim.Native.Nat.{◌-◌}
 use Rattle.rows.proofs.find.Given as goal
 
-abbrev pub invariant-loop-row : goal.invariant-loop-row
-invariant-loop-row l = laws.Searching l.rows l.m l.count l.row l.key l.n
+abbrev pub invariant-loop-next : goal.invariant-loop-next
+invariant-loop-next l = laws.Searching l.rows l.m l.count l.row l.key l.n
 
-abbrev pub decreases-loop-row : goal.decreases-loop-row
-decreases-loop-row l = l.count - l.n
+abbrev pub decreases-loop-next : goal.decreases-loop-next
+decreases-loop-next l = l.count - l.n

@@ -1,15 +1,11 @@
+use native.Mathlib.Numerals.{towards_suc}
+use mathlib.Core.Path.{◌∙◌}
+use mathlib.Core.List.{[], ◌∷◌}
 use native.Mathlib.Omega.{arith}
-use lib.ListN.{length-set}
+use Rattle.rows.proofs.Stores.{part_sets}
 use Rattle.rows.proofs.store.Goals as goal
 
-pub bounds-rows-at-2 : goal.bounds-rows-at-2
-bounds-rows-at-2 c = simp length-set (omega arith)
-
-pub bounds-rows-at-3 : goal.bounds-rows-at-3
-bounds-rows-at-3 c = simp length-set (omega arith)
-
-pub bounds-rows-at-4 : goal.bounds-rows-at-4
-bounds-rows-at-4 c = simp length-set (omega arith)
-
-pub bounds-rows-at-5 : goal.bounds-rows-at-5
-bounds-rows-at-5 c = simp length-set (omega arith)
+pub returns : goal.returns
+returns c =
+    let r = c.args.row in
+    part_sets _ _ c.args.rows.now _ (r.kind ∷ r.first ∷ r.second ∷ r.name ∷ c.args.size ∷ []) c.copy_from_slice.ensures.after (omega arith) (omega arith) ∙ simp towards_suc

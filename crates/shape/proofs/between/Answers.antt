@@ -1,8 +1,8 @@
 use borrow.Author.Tests.{lt-leb, le-leb}
 use Rattle.shape.proofs.between.Goals as goal
 
-pub returns-then-value-low : goal.returns-then-value-low
-returns-then-value-low c = simp (lt-leb _ _ c.if-value-low.true)
+pub returns-then-low-value : goal.returns-then-low-value
+returns-then-low-value c = simp (le-leb _ _ c.if-low-value.true)
 
-pub returns : goal.returns
-returns c = simp (le-leb _ _ c.if-value-low.false)
+pub returns-else-low-value : goal.returns-else-low-value
+returns-else-low-value c = simp (lt-leb _ _ c.if-low-value.false)

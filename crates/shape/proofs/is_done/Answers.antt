@@ -9,6 +9,6 @@ pub returns-then-due-2 : goal.returns-then-due-2
 unfolding is_done
 returns-then-due-2 c = simp (c.if-due.false, c.if-due-2.true)
 
-pub returns : goal.returns
+pub returns-else-due-2 : goal.returns-else-due-2
 unfolding is_done
-returns c = simp (c.if-due.false, c.if-due-2.false)
+returns-else-due-2 c = simp (c.if-due.false, c.if-due-2.false)

@@ -6,6 +6,6 @@ pub returns-then-class-due : goal.returns-then-class-due
 unfolding may_stand
 returns-then-class-due c = simp (eq-eqb _ _ c.if-class-due.true)
 
-pub returns : goal.returns
+pub returns-else-class-due : goal.returns-else-class-due
 unfolding may_stand
-returns c = simp (ne_eqb _ _ c.if-class-due.false)
+returns-else-class-due c = simp (ne_eqb _ _ c.if-class-due.false)

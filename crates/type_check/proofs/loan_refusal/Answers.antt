@@ -1,11 +1,13 @@
 use Rattle.type_check.proofs.Refusals as refusals
 use Rattle.type_check.proofs.loan_refusal.Goals as goal
+use Rattle.type_check.proofs.loan_refusal.Goals.{then-output-input-via-then-output-input, then-output-input-via-else-output-input+then-work-words}
 
 pub returns-then-output-input : goal.returns-then-output-input
-returns-then-output-input c = search (refusals.short_output, c.if-output-input.true, c.name_count-names.ensures)
-
-pub returns-then-work-names : goal.returns-then-work-names
-returns-then-work-names c = search (refusals.short_work, c.if-output-input.false, c.if-work-names.true, c.name_count-names.ensures)
+returns-then-output-input c =
+    elim c.then-output-input.branch [
+      | then-output-input-via-then-output-input w ↦ refusals.short_output _ _ _ _ c.name_count.ensures w.if-output-input.true
+      | then-output-input-via-else-output-input+then-work-words w ↦ refusals.short_work _ _ _ _ c.name_count.ensures w.if-output-input.false w.if-work-words.true
+    ]
 
 pub returns : goal.returns
-returns c = search (refusals.enough, c.if-output-input.false, c.if-work-names.false, c.name_count-names.ensures)
+returns c = refusals.enough _ _ _ _ c.name_count.ensures c.if-output-input.false c.if-work-words.false

@@ -3,29 +3,11 @@ use Rattle.types.proofs.Query as query
 use Rattle.types.proofs.Lists as lists
 use Rattle.types.proofs.cell_count.Goals as goal
 
-pub loop-at-init : goal.loop-at-init
-loop-at-init c = search lists.counted_start
-
-pub loop-at-smaller-then-at-before : goal.loop-at-smaller-then-at-before
-loop-at-smaller-then-at-before c = omega (arith, lists.counted_less _ _ c.requires.0 _ _ _ c.loop-at-2.invariant.0 (λ z. omega (arith, c.loop-at-2.invariant.3)) _ (query.row_placed c.args.rows.now _ _ c.loop-at-2.invariant.1 _ c.row_from-row.ensures), c.loop-at-2.invariant.2)
-
-pub loop-at-preserved-then-at-before : goal.loop-at-preserved-then-at-before
-loop-at-preserved-then-at-before c = lists.counted_next _ _ c.requires.0 _ _ _ c.loop-at-2.invariant.0 (λ z. omega (arith, c.loop-at-2.invariant.3)) _ (query.row_placed c.args.rows.now _ _ c.loop-at-2.invariant.1 _ c.row_from-row.ensures)
-
-pub loop-at-smaller : goal.loop-at-smaller
-loop-at-smaller c = omega (arith, lists.counted_less _ _ c.requires.0 _ _ _ c.loop-at-2.invariant.0 (λ z. omega (arith, c.loop-at-2.invariant.3)) _ (query.row_placed c.args.rows.now _ _ c.loop-at-2.invariant.1 _ c.row_from-row.ensures), c.loop-at-2.invariant.2)
-
 pub loop-at-preserved : goal.loop-at-preserved
 loop-at-preserved c = lists.counted_next _ _ c.requires.0 _ _ _ c.loop-at-2.invariant.0 (λ z. omega (arith, c.loop-at-2.invariant.3)) _ (query.row_placed c.args.rows.now _ _ c.loop-at-2.invariant.1 _ c.row_from-row.ensures)
 
-pub overflow_sub-place-in-loop-at-2 : goal.overflow_sub-place-in-loop-at-2
-overflow_sub-place-in-loop-at-2 c = omega (arith, c.loop-at-2.invariant.1, c.if-at-before.false, c.if-at-eq0.false)
-
-pub loop-at-2-smaller : goal.loop-at-2-smaller
-loop-at-2-smaller c = omega (arith, lists.counted_less _ _ c.requires.0 _ _ _ c.loop-at-2.invariant.0 (λ z. omega (arith, c.loop-at-2.invariant.3)) _ (query.row_placed c.args.rows.now _ _ c.loop-at-2.invariant.1 _ c.row_from-row.ensures))
-
 pub loop-at-2-preserved : goal.loop-at-2-preserved
-loop-at-2-preserved c = (lists.counted_next _ _ c.requires.0 _ _ _ c.loop-at-2.invariant.0 (λ z. omega (arith, c.loop-at-2.invariant.3)) _ (query.row_placed c.args.rows.now _ _ c.loop-at-2.invariant.1 _ c.row_from-row.ensures), omega (arith, c.loop-at-2.invariant.1, c.if-at-before.false), omega (arith, lists.counted_less _ _ c.requires.0 _ _ _ c.loop-at-2.invariant.0 (λ z. omega (arith, c.loop-at-2.invariant.3)) _ (query.row_placed c.args.rows.now _ _ c.loop-at-2.invariant.1 _ c.row_from-row.ensures), c.loop-at-2.invariant.2), omega (arith, c.if-at-eq0.false))
+loop-at-2-preserved c = (lists.counted_next _ _ c.requires.0 _ _ _ c.loop-at-2.invariant.0 (λ z. omega (arith, c.loop-at-2.invariant.3)) _ (query.row_placed c.args.rows.now _ _ c.loop-at-2.invariant.1 _ c.row_from-row.ensures), omega (arith, c.loop-at-2.invariant.1, c.if-at-before.false), omega (arith, c.if-at-before.false, c.loop-at-2.invariant.2), omega (arith, c.if-at-eq0.false))
 
 pub returns : goal.returns
 returns c = search lists.counted_done

@@ -1,25 +1,12 @@
-use native.Mathlib.Omega.{arith}
-use Rattle.types.proofs.Query as query
+use borrow.Author.Rules.{rules}
 use Rattle.types.specs.Ty.{remove_aliasing}
+use Rattle.types.proofs.Query as query
 use Rattle.types.proofs.remove_aliasing.Goals as goal
 
-pub loop-row-init : goal.loop-row-init
-loop-row-init c = search query.strip_start
-
-pub returns-then-row-lt-ALIAS : goal.returns-then-row-lt-ALIAS
-returns-then-row-lt-ALIAS c = query.strip_aliases_done _ _ _ c.requires.0 _ c.loop-row-2.invariant.0 _ (query.row_placed c.args.rows.now _ _ c.loop-row-2.invariant.1 _ c.row_from-row.ensures) c.if-row-lt-ALIAS.true
-
-pub loop-row-smaller : goal.loop-row-smaller
-loop-row-smaller c = omega (arith, query.strip_less remove_aliasing _ _ _ c.requires.0 _ c.loop-row-2.invariant.0 _ (query.row_placed c.args.rows.now _ _ c.loop-row-2.invariant.1 _ c.row_from-row.ensures), c.loop-row-2.invariant.2)
-
-pub loop-row-preserved : goal.loop-row-preserved
-loop-row-preserved c = query.strip_aliases_next _ _ _ c.requires.0 _ c.loop-row-2.invariant.0 _ (query.row_placed c.args.rows.now _ _ c.loop-row-2.invariant.1 _ c.row_from-row.ensures) c.if-row-lt-ALIAS.false
-
-pub overflow_sub-place-in-loop-row-2 : goal.overflow_sub-place-in-loop-row-2
-overflow_sub-place-in-loop-row-2 c = omega (arith, (query.strip_aliases_next _ _ _ c.requires.0 _ c.loop-row-2.invariant.0 _ (query.row_placed c.args.rows.now _ _ c.loop-row-2.invariant.1 _ c.row_from-row.ensures) c.if-row-lt-ALIAS.false).is.low, c.loop-row-2.invariant.1, c.if-at-before.false)
-
-pub loop-row-2-smaller : goal.loop-row-2-smaller
-loop-row-2-smaller c = omega (arith, query.strip_less remove_aliasing _ _ _ c.requires.0 _ c.loop-row-2.invariant.0 _ (query.row_placed c.args.rows.now _ _ c.loop-row-2.invariant.1 _ c.row_from-row.ensures))
-
-pub loop-row-2-preserved : goal.loop-row-2-preserved
-loop-row-2-preserved c = (query.strip_aliases_next _ _ _ c.requires.0 _ c.loop-row-2.invariant.0 _ (query.row_placed c.args.rows.now _ _ c.loop-row-2.invariant.1 _ c.row_from-row.ensures) c.if-row-lt-ALIAS.false, omega (arith, c.loop-row-2.invariant.1, c.if-at-before.false), omega (arith, query.strip_less remove_aliasing _ _ _ c.requires.0 _ c.loop-row-2.invariant.0 _ (query.row_placed c.args.rows.now _ _ c.loop-row-2.invariant.1 _ c.row_from-row.ensures), c.loop-row-2.invariant.2))
+pub returns : goal.returns
+returns c =
+    query.stripped remove_aliasing _ _ _ _ _ c.strip_until.ensures
+    (record {
+      stays = λ at r is e says. query.remove_aliasing_stays _ _ c.requires.0 at is r e (search rules);
+      goes_on = λ at r is e says. query.remove_aliasing_on _ _ c.requires.0 at is r e (search rules);
+    })

@@ -12,8 +12,5 @@ write_message-at-requires c = record { ready = search rules; error_width_in_boun
 pub loop-i-preserved : goal.loop-i-preserved
 loop-i-preserved c = search laws.writing_more
 
-pub shape_of-text : goal.shape_of-text
-shape_of-text c = c.loop-i.invariant.left.long
-
 pub returns : goal.returns
 returns c = search laws.writing_done
