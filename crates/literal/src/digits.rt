@@ -7,7 +7,7 @@ pub const BYTES: usize = 256;
 
 // Each byte's worth as a digit: digits and letters of either case have their worth in base 36, every other byte has
 // 255, which is a digit of no base.
-const DIGIT_VALUES: [u16; BYTES] = [
+const DIGIT_VALUES: [u8; 256] = [
     255, 255, 255, 255, 255, 255, 255, 255, 255, 255, 255, 255, 255, 255, 255, 255, 255, 255, 255,
     255, 255, 255, 255, 255, 255, 255, 255, 255, 255, 255, 255, 255, 255, 255, 255, 255, 255, 255,
     255, 255, 255, 255, 255, 255, 255, 255, 255, 255, 0, // '0'
@@ -26,10 +26,15 @@ const DIGIT_VALUES: [u16; BYTES] = [
 ];
 
 // Writes the table of digits. A constant array is built anew wherever it is named, so literals are read with a table
-// that was written once.
+// that was written once. A loop: the library for C is to need no function from outside but memset.
 pub fn put_digits(table: &mut [u16])
     requires { length table.old ≡ bytes }
     ensures { DigitTable table.new }
 {
-    table.copy_from_slice(&DIGIT_VALUES);
+    let values = DIGIT_VALUES;
+    let mut byte: usize = 0;
+    while byte < BYTES {
+        table[byte] = values[byte] as u16;
+        byte += 1;
+    }
 }

@@ -38,7 +38,8 @@ fn bucket_of(row: Words) -> usize
     ((kind + first + second + name) / 262144 % 512) as usize
 }
 
-// The row past row m that has these words, of those that have a place.
+// The row past row m that has these words, of those that have a place. It is put into both callers, as `find` is.
+#[inline(always)]
 fn follow(rows: &[u32], index: &[u16; LENGTH], m: u32, count: u32, row: Words) -> Option<u32>
     requires rows_indexed { RowsIndexed rows.now count index.now }
     requires m_le_count { (m ≤ count) × (row_width * count ≤ length rows.now) }

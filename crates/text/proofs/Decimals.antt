@@ -132,6 +132,10 @@ putting_start n text₀ at d small long fits =
     }
 
 module _ (n : ℕ) (text₀ : List ℕ) (at end : ℕ) (text : List ℕ) (left to : ℕ) (p : Putting n text₀ at end text left to) where
+  -- Cited by nothing here now
+  pub putting_low : at ≤ to
+  putting_low = omega (arith, p.place)
+
   pub putting_inside : to ≤ length text
   putting_inside =
       let l = ap length p.text_is ∙ length-sets text₀ to p.behind in

@@ -3,8 +3,8 @@ use Prim.Native.Nat.{ℕ, suc, ◌+◌, ◌-◌, ◌≤◌, ◌<◌}
 use native.Mathlib.Omega.{arith}
 use mathlib.Core.Path.{◌≡◌, refl, sym, ap, ◌∙◌, subst}
 use mathlib.Core.List.{List, [], ◌∷◌, ◌++◌, append_assoc}
-use lib.ListN.{length, take, drop, set, length-append}
-use lib.Seq.{sets, sets-eq, length-sets, drop-drop, set_comm}
+use lib.ListN.{length, get_or, take, drop, set, length-append}
+use lib.Seq.{sets, sets-eq, length-sets, take-suc, take-length, length-take-le, drop-drop, set_comm}
 use borrow.Rule.Slice.PartMut.{put_mid}
 use Rattle.text.specs.Written.{Fits, Written}
 
@@ -31,6 +31,18 @@ copied s l at n long room =
     let same : n ≡ length s = omega arith in
     let rest : drop n (drop at l) ≡ drop (at + length s) l = drop-drop n at l ∙ ap (λ (k : ℕ). drop (at + k) l) same in
     ap (λ (k : List ℕ). take at l ++ (s ++ k)) rest ∙ sym (append_assoc (take at l) s (drop (at + length s) l)) ∙ sym (sets-eq s l at room)
+
+-- What a loop over bytes has written after n of them, one more, and all
+pub one_more : (s l : List ℕ) (at n : ℕ) → n < length s → set (sets l at (take n s)) (at + n) (get_or s n 0) ≡ sets l at (take (n + 1) s)
+one_more s l at n p =
+    let e : n + 1 ≡ suc n = omega arith in
+    rw (e, take-suc s n 0 p)
+    (sym
+    (sets_append (take n s) (get_or s n 0 ∷ []) l at
+    ∙ ap (λ (m : ℕ). set (sets l at (take n s)) (at + m) (get_or s n 0)) (length-take-le n s (omega arith))))
+
+pub all_written : (s l : List ℕ) (at n : ℕ) → n ≡ length s → sets l at (take n s) ≡ sets l at s
+all_written s l at n e = rw (e, take-length s)
 
 -- Where two texts fit one after the other, the first fits, and the second behind it once the first is written
 pub first_fits : (a b text : List ℕ) (at : ℕ) → Fits (a ++ b) text at → Fits a text at

@@ -45,19 +45,16 @@ from_copy e a =
     }
 
 -- Before the passes: the working words are 0, the output is a copy of the input
-module _ (output work : List ℕ) {input copy work₁ : List ℕ} (passed : Passed input (length output) (length work)) (width : length work ≡ work_width * name_count input)
-    (emptied : work₁ ≡ replicate (length work) 0) (copied : copy ≡ input) where
-  abbrev output₁ : List ℕ
-  output₁ = copy ++ drop (length input) output
-
+module _ (output work : List ℕ) {input output₁ work₁ : List ℕ} (passed : Passed input (length output) (length work)) (width : length work ≡ work_width * name_count input)
+    (emptied : work₁ ≡ replicate (length work) 0) (copied : output₁ ≡ input ++ drop (length input) output) where
   same_past : drop (length input) output₁ ≡ drop (length input) output
-  same_past = ap (λ (x : List ℕ). drop (length input) (x ++ drop (length input) output)) copied ∙ drop-append_seam input (drop (length input) output)
+  same_past = ap (drop (length input)) copied ∙ drop-append_seam input (drop (length input) output)
 
   long₁ : length output₁ ≡ length output
   long₁ =
       let a = length-drop (length input) output in
       let b = passed.long in
-      ap (λ (x : List ℕ). length (x ++ drop (length input) output)) copied ∙ length-append input (drop (length input) output) ∙ omega arith
+      ap length copied ∙ length-append input (drop (length input) output) ∙ omega arith
 
   wide₁ : length work₁ ≡ length work
   wide₁ = ap length emptied ∙ length-replicate (length work) 0
@@ -67,16 +64,16 @@ module _ (output work : List ℕ) {input copy work₁ : List ℕ} (passed : Pass
       let a = passed.long in
       let b = passed.wide in (
         record { layout = passed.layout; names = passed.names; long = omega (arith, long₁); wide = omega (arith, wide₁) },
-        ((λ i. copied i ++ sym same_past i), emptied ∙ ap (λ (k : ℕ). replicate k 0) width),
+        (copied ∙ ap (λ (x : List ℕ). input ++ x) (sym same_past), emptied ∙ ap (λ (k : ℕ). replicate k 0) width),
       )
 
 -- After them
-module _ (output work : List ℕ) {input rows errors copy work₁ output₂ rows₂ errors₂ work₂ work₃ : List ℕ} {r : State}
+module _ (output work : List ℕ) {input rows errors output₁ work₁ output₂ rows₂ errors₂ work₂ work₃ : List ℕ} {r : State}
     (passed : Passed input (length output) (length work)) (width : length work ≡ work_width * name_count input)
-    (emptied : work₁ ≡ replicate (length work) 0) (copied : copy ≡ input)
-    (passes : BothPasses input (buffers (copy ++ drop (length input) output) rows errors work₁) (buffers output₂ rows₂ errors₂ work₂) r)
+    (emptied : work₁ ≡ replicate (length work) 0) (copied : output₁ ≡ input ++ drop (length input) output)
+    (passes : BothPasses input (buffers output₁ rows errors work₁) (buffers output₂ rows₂ errors₂ work₂) r)
     (last : work₃ ≡ replicate (length work₂) 0) where
-  past₁ : drop (length input) (copy ++ drop (length input) output) ≡ drop (length input) output
+  past₁ : drop (length input) output₁ ≡ drop (length input) output
   past₁ = same_past output work passed width emptied copied
 
   long₂ : length output₂ ≡ length output

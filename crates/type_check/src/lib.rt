@@ -26,6 +26,9 @@ pub struct Counts {
     pub errors: usize,
 }
 
+// What the working words are cleared with.
+const BLANK: u32 = 0;
+
 // How many levels are left for an item.
 const ITEM_DEPTH: usize = 63;
 
@@ -96,6 +99,19 @@ fn both_passes(
     walk.state
 }
 
+// The output begins as a copy of the input. A loop: the library for C is to need no function from outside but memset, and a
+// copy of slices needs two.
+fn copy_bytes(input: &[u8], output: &mut [u8])
+    requires { length input.now ≤ length output.old }
+    ensures { output.new ≡ input.now ++ drop (length input.now) output.old }
+{
+    let mut i: usize = 0;
+    while i < input.len() {
+        output[i] = input[i];
+        i += 1;
+    }
+}
+
 // Refusals 6 and 7 leave zeros.
 fn wipe(count: usize, output: &mut [u8], rows: &mut [u32], errors: &mut [u32])
     requires { count ≤ length output.old }
@@ -123,10 +139,10 @@ fn run(
         (buffers_before output rows errors work)
         (buffers_after output rows errors work) (outcome_of result) }
 {
-    work.fill(0);
-    output[..input.len()].copy_from_slice(input);
+    work.fill(BLANK);
+    copy_bytes(input, output);
     let last = both_passes(input, output, rows, errors, work);
-    work.fill(0);
+    work.fill(BLANK);
     if last.full {
         wipe(input.len(), output, rows, errors);
         return Err(Refusal::TooFewRows);

@@ -8,7 +8,9 @@ use native.Mathlib.Omega.{arith}
 use native.Mathlib.Nat.{le-suc_iff}
 use borrow.Author.Tests.{lt-ltb, ne_eqb}
 use lib.Dec.{eqb}
-use lib.ListN.{length, get_or, drop, length-append, length-drop, get_or-append}
+use borrow.Author.Count.{below_none, below_more}
+use lib.ListN.{length, get_or, set, drop, length-set, length-append, length-drop, get_or-append}
+use lib.Seq.{get_or-set_same, get_or-set_other}
 use Rattle.std.proofs.lemmas.List.{get_or-drop, get_or-append_right}
 use Rattle.types.specs.Ty.{Ty, member, fixed_types, unknown, void, bool, u16, i16, pointer, string}
 use Rattle.types.specs.WordSize.{to_ir_type, ir_word_size, size_word}
@@ -171,3 +173,34 @@ stored_front w front room e =
 
     long : length (front ++ drop fixed_length w) ≡ length w
     long = simp (length-append, length-drop) (omega (arith, fits))
+
+-- The fixed words copied to the front of w, as far as i
+pub record Copied (w : List ℕ) (i : ℕ) (w' : List ℕ) : Type 0 where
+  pub long : length w' ≡ length w
+  pub done : (k : ℕ) → k < i → get_or w' k 0 ≡ get_or fixed_words k 0
+  pub past : (k : ℕ) → i ≤ k → get_or w' k 0 ≡ get_or w k 0
+
+pub copied_none : (w : List ℕ) → Copied w 0 w
+copied_none w = record { long = refl; done = below_none _; past = λ k h. refl }
+
+module _ (w : List ℕ) (i : ℕ) (w' : List ℕ) (s : Copied w i w') where
+  pub copied_more : i < length w' → Copied w (i + 1) (set w' i (get_or fixed_words i 0))
+  copied_more l =
+      record {
+        long = length-set w' i (get_or fixed_words i 0) ∙ s.long;
+        done =
+            below_more _ i
+            (λ k h. let ne : k ≡ i → ⊥ = omega arith in get_or-set_other w' i k (get_or fixed_words i 0) 0 ne ∙ s.done k h)
+            (get_or-set_same w' i (get_or fixed_words i 0) 0 l);
+        past = λ k h. let ne : k ≡ i → ⊥ = omega arith in get_or-set_other w' i k (get_or fixed_words i 0) 0 ne ∙ s.past k (omega arith);
+      }
+
+  pub copied_all : fixed_length ≤ length w → fixed_length ≤ i → i ≤ fixed_length → FixedStored w w'
+  copied_all room l h =
+      let kept : Kept fixed_words w' 7 = λ k b. s.done k (omega arith) in
+      record {
+        table = fixed_table w' (omega (arith, s.long)) kept;
+        types = fixed_types_lem w' kept;
+        long = s.long;
+        past = λ k b. s.past k (omega arith);
+      }

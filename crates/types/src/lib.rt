@@ -55,7 +55,7 @@ pub const ARGUMENT: u32 = 13;
 pub const STRING_NAME: u32 = 65535;
 
 // Unknown, void, bool, u16, i16, pointer to u16, String.
-pub static FIXED_WORDS: [u32; FIXED_LENGTH] = [
+pub const FIXED_WORDS: [u32; FIXED_LENGTH] = [
     UNKNOWN,
     0,
     0,
@@ -338,7 +338,9 @@ fn part_word(rows: &[u32], part: u32) -> u32
     }
 }
 
-// The size of a row that may stand behind the rows 1 to m, from the sizes of its parts.
+// The size of a row that may stand behind the rows 1 to m, from the sizes of its parts. It is put into both callers, since
+// both ask it of every row.
+#[inline(always)]
 pub fn size_word(rows: &[u32], m: u32, row: Words) -> u32
     requires { RowOk rows.now m row × Sizes rows.now m × (row_width * m ≤ length rows.now) }
     ensures { result ≡ size_word (build row (unfolded rows.now)) }
@@ -386,11 +388,16 @@ pub fn intern(
     })
 }
 
-// Stores the fixed rows.
-#[tactic(auto, using(crate::proofs::Fixed::stored_front))]
+// Stores the fixed rows. A loop: the library for C is to need no function from outside but memset, and a copy of slices
+// needs two.
 pub fn put_fixed_rows(rows: &mut [u32])
     requires { fixed_length ≤ length rows.old }
     ensures { FixedStored rows.old rows.new }
 {
-    rows[..FIXED_LENGTH].copy_from_slice(&FIXED_WORDS);
+    let fixed = FIXED_WORDS;
+    let mut i = 0;
+    while i < FIXED_LENGTH {
+        rows[i] = fixed[i];
+        i += 1;
+    }
 }
