@@ -1,5 +1,5 @@
 -- Records that follow each other, and what their slots show. Assumes nothing.
-use Prim.Native.Nat.{ℕ, zero, suc, ◌+◌, ◌-◌, ◌≤◌, ◌<◌}
+use Prim.Native.Nat.{ℕ, zero, suc, ◌+◌, ◌-◌, ◌^◌, ◌≤◌, ◌<◌}
 use mathlib.Core.Path.{◌≡◌, refl, ap, subst}
 use mathlib.Core.Bool.{true}
 use mathlib.Core.List.{List}
@@ -68,7 +68,15 @@ module _ (s : List ℕ) (at stop : ℕ) (l : RecordsListed s at stop) (p : at < 
   pub head_inside : at + 4 ≤ length s
   head_inside = let f = first s at stop l p in omega (arith, f.slot, f.ends, l.long)
 
+  -- Cited by nothing here now
+  pub slot_small : at + 16 < 2 ^ 64
+  slot_small = let f = first s at stop l p in omega (arith, f.slot, f.ends, l.long, l.few)
+
   module _ (len : ℕ) (e : Read (word_at s at) 32 len) where
+    -- Cited by nothing here now
+    pub next_small : at + len < 2 ^ 64
+    next_small = let f = first s at stop l p in omega (arith, f.slot, f.ends, l.long, l.few, e.is)
+
     pub next_less : stop - (at + len) < stop - at
     next_less = let f = first s at stop l p in omega (arith, f.slot, f.ends, e.is)
 
@@ -117,6 +125,10 @@ pub counting_start : (s : List ℕ) (from stop : ℕ) → RecordsListed s from s
 counting_start s from stop l = record { listed = l; few = omega arith; total = λ n c. (n, c, omega arith) }
 
 module _ (s : List ℕ) (from stop at count : ℕ) (i : Counting s from stop at count) where
+  -- Cited by nothing here now
+  pub count_small : at < stop → count + 1 < 2 ^ 32
+  count_small p = omega (arith, i.few, i.listed.long, i.listed.few)
+
   pub counting_on : at < stop → (len : ℕ) → Read (word_at s at) 32 len → Counting s from stop (at + len) (count + 1)
   unfolding Chain
   counting_on p len e =

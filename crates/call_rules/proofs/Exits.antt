@@ -34,15 +34,12 @@ pub counted : (s o : List ℕ) (from stop : ℕ) {w : List ℕ} {c : ℕ} → Sl
 counted s o from stop f got n C cells h = n.count f.listed.many f.listed.chain ∙ sym (cells_counted s o stop C cells f.listed.many from h f.listed.chain)
 
 -- The same requirements after an error was reported or not
-module _ (b : Bool) (x : Error) (e e₁ : List ℕ) (st st₁ : State) (rep : ReportedUnless b x e st e₁ st₁) (w w₁ : List ℕ) (ew : w₁ ≡ w) where
-  after : (P : (rows : List ℕ) → (count : ℕ) → Type 0) → P w st.rows → P w₁ st₁.rows
-  after P h = subst (λ (y : List ℕ). P y st₁.rows) (sym ew) (subst (P w) (sym (unless_rows rep)) h)
+module _ (b : Bool) (x : Error) (e e₁ : List ℕ) (st st₁ : State) (rep : ReportedUnless b x e st e₁ st₁) (w : List ℕ) where
+  pub filled_after : (s o : List ℕ) (from stop : ℕ) → SlotsFilled w st.rows s o from stop → SlotsFilled w st₁.rows s o from stop
+  filled_after s o from stop = subst (λ (c : ℕ). SlotsFilled w c s o from stop) (sym (unless_rows rep))
 
-  pub filled_after : (s o o₁ : List ℕ) (from stop : ℕ) → o₁ ≡ o → SlotsFilled w st.rows s o from stop → SlotsFilled w₁ st₁.rows s o₁ from stop
-  filled_after s o o₁ from stop eo h = subst (λ (y : List ℕ). SlotsFilled w₁ st₁.rows s y from stop) (sym eo) (after (λ v c. SlotsFilled v c s o from stop) h)
-
-  pub part_after : Table w st.rows → (n v : ℕ) (t : Ty) → TypePart w st.rows n t v → OneType w₁ st₁.rows v
-  part_after tb n v t p = after (λ y c. OneType y c v) (record { table = tb; type = p.is })
+  pub part_after : Table w st.rows → (n v : ℕ) (t : Ty) → TypePart w st.rows n t v → OneType w st₁.rows v
+  part_after tb n v t p = subst (λ (c : ℕ). OneType w c v) (sym (unless_rows rep)) (record { table = tb; type = p.is })
 
 -- `call_result`
 module _ (s : List ℕ) (at ty from stop : ℕ) (o w e e' : List ℕ) (st st' : State) (one : OneType w st.rows ty) (k : ℕ) (ek : k ≡ kind_of (unfolded w ty)) where
@@ -61,10 +58,10 @@ module _ (s : List ℕ) (at ty from stop : ℕ) (o w e e' : List ℕ) (st st' : 
       other work output ix x y p = ne_eqb (kind_of x.type) 9 (λ z. q (ek ∙ ap kind_of (y.typing.shows p).type ∙ z))
 
   pub called : k ≡ 9 → SlotsFilled w st.rows s o from stop → (cells : ℕ) → CellPart w st.rows ty 13 (second_of (unfolded w ty)) cells → (expected : ℕ) → expected ≡ cell_count (unfolded w cells)
-      → (r : ℕ) → Shows w st.rows r (part_of function_kind (unfolded w ty)) → (got : ℕ) → CountsRecords s from stop got → (o₁ w₁ e₁ : List ℕ) (st₁ : State) → o₁ ≡ o → w₁ ≡ w
-      → ReportedUnless (eqb expected got) (error_for s at 11 expected got 0) e st e₁ st₁ → CheckArguments s at from stop cells o₁ w₁ e₁ st₁ e' st' → Call s at ty from stop o w e st e' (record { ty = r; state = st' })
+      → (got : ℕ) → CountsRecords s from stop got → (e₁ : List ℕ) (st₁ : State) → ReportedUnless (eqb expected got) (error_for s at 11 expected got 0) e st e₁ st₁
+      → CheckArguments s at from stop cells o w e₁ st₁ e' st' → (r : ℕ) → Shows w st.rows r (part_of function_kind (unfolded w ty)) → Call s at ty from stop o w e st e' (record { ty = r; state = st' })
   unfolding SpellsOperand is_type_operand operand_sort
-  called q f cells part expected ee r sh got n o₁ w₁ e₁ st₁ eo ew rep c =
+  called q f cells part expected ee got n e₁ st₁ rep c r sh =
       gives_checked (λ x. part_of function_kind x.type) (λ x. call_errors (location_at s at) x.type x.cells)
       (checks_room
       (λ x. unless (eqb expected (cell_count x.cells)) (argument_count (location_at s at) expected (cell_count x.cells)) ++ argument_errors (location_at s at) 1 (unfolded w cells) x.cells)
@@ -74,7 +71,7 @@ module _ (s : List ℕ) (at ty from stop : ℕ) (o w e e' : List ℕ) (st st' : 
       (checks_unless (λ x. eqb expected (cell_count x.cells)) (λ x. argument_count (location_at s at) expected (cell_count x.cells)) rep
       (λ work output ix x y p. ap (eqb expected) (counted s o from stop f got n (lent work output e w ix st) x.cells y.shown))
       (λ work output ix x y p. spells_at s at 11 (refl, refl) (refl, counted s o from stop f got n (lent work output e w ix st) x.cells y.shown) (refl, refl)))
-      (checks_at (λ x. x.cells) (λ arguments. argument_errors (location_at s at) 1 (unfolded w cells) arguments) arguments (λ work output ix x y. y.shown))
+      (checks_at (λ x. x.cells) (λ arguments. argument_errors (location_at s at) 1 (unfolded w cells) arguments) c (λ work output ix x y. y.shown))
       both_later)
       (λ work output ix x y p.
       let t : unfolded w ty ≡ x.type = (y.typing.shows p).type in
@@ -84,8 +81,3 @@ module _ (s : List ℕ) (at ty from stop : ℕ) (o w e e' : List ℕ) (st st' : 
       rw (z, many, parameters) refl))
       sh.is
       (λ work output ix x y p. record { is = sh.is; type = sh.type ∙ ap (λ (t : Ty). part_of function_kind t) (y.typing.shows p).type })
-    where
-      arguments : CheckArguments s at from stop cells o w e₁ st₁ e' st'
-      arguments =
-          subst (λ (y : List ℕ). CheckArguments s at from stop cells y w e₁ st₁ e' st') eo
-          (subst (λ (y : List ℕ). CheckArguments s at from stop cells o₁ y e₁ st₁ e' st') ew c)

@@ -1,5 +1,5 @@
 -- The loop over arguments: whatever checks the rest checks the whole. Assumes nothing.
-use Prim.Native.Nat.{ℕ, ◌+◌, ◌≤◌, ◌<◌}
+use Prim.Native.Nat.{ℕ, ◌+◌, ◌^◌, ◌≤◌, ◌<◌}
 use mathlib.Core.Path.{◌≡◌, refl, sym, ap, ◌∙◌, subst}
 use mathlib.Core.Bool.{Bool, true}
 use mathlib.Core.List.{List, [], ◌++◌}
@@ -46,14 +46,13 @@ checks_none = record { kept = refl; walked = λ work o ix from to g. walked_none
 
 -- Arguments
 
--- From the words o₀, w₀ and e₀ and the state st₀ on: whatever checks the rest, from those that there are now, checks the whole
-pub record Arguments (s : List ℕ) (at from stop cells : ℕ) (o₀ w₀ e₀ : List ℕ) (st₀ : State) (place cell position : ℕ) (o w e : List ℕ) (st : State) : Type 0 where
-  pub table : Table w st.rows
-  pub filled : SlotsFilled w st.rows s o place stop
-  pub is : IsCell w st.rows argument_kind cell
+pub record Arguments (s : List ℕ) (at from stop cells : ℕ) (o w e₀ : List ℕ) (st₀ : State) (place cell position : ℕ) (e : List ℕ) (st : State) : Type 0 where
+  pub rows : st.rows ≡ st₀.rows
+  pub filled : SlotsFilled w st₀.rows s o place stop
+  pub is : IsCell w st₀.rows argument_kind cell
   pub low : position ≤ place + 1
   pub going : (e' : List ℕ) (st' : State) → Checks (ListShown s o place stop) (λ arguments. argument_errors (location_at s at) position (unfolded w cell) arguments) w e st e' st'
-      → CheckArguments s at from stop cells o₀ w₀ e₀ st₀ e' st'
+      → CheckArguments s at from stop cells o w e₀ st₀ e' st'
 
 argument_turn : (l : Location) (i : ℕ) (p arguments : Ty) → kind_of p ≡ 13 → is argument_kind arguments ≡ true
     → unless (types_are_assignable (first_of p) (first_of arguments)) (invalid_argument l i (first_of p) (first_of arguments)) ++ argument_errors l (i + 1) (second_of p) (second_of arguments)
@@ -67,22 +66,26 @@ unfolding argument_errors
 argument_none l i end = refl
 argument_none l i (node k t rest z n) = refl
 
-module _ (s : List ℕ) (at from stop cells : ℕ) (o₀ w₀ e₀ : List ℕ) (st₀ : State) where
-  module _ (place cell position : ℕ) (o w e : List ℕ) (st : State) (i : Arguments s at from stop cells o₀ w₀ e₀ st₀ place cell position o w e st) where
-    pub arguments_none : cell ≡ 0 → CheckArguments s at from stop cells o₀ w₀ e₀ st₀ e st
+module _ (s : List ℕ) (at from stop cells : ℕ) (o w e₀ : List ℕ) (st₀ : State) (tb : Table w st₀.rows) where
+  module _ (place cell position : ℕ) (e : List ℕ) (st : State) (i : Arguments s at from stop cells o w e₀ st₀ place cell position e st) where
+    pub arguments_none : cell ≡ 0 → CheckArguments s at from stop cells o w e₀ st₀ e st
     unfolding argument_errors
     arguments_none z =
         i.going e st
         (checks_room (λ arguments. []) (λ arguments. argument_errors (location_at s at) position (unfolded w cell) arguments) checks_none
         (λ work output ix arguments h q. sym (ap (λ (t : Ty). argument_errors (location_at s at) position t arguments) (ap (unfolded w) z ∙ unfolded_zero w))))
 
-    pub arguments_done : stop ≤ place → CheckArguments s at from stop cells o₀ w₀ e₀ st₀ e st
+    pub arguments_done : stop ≤ place → CheckArguments s at from stop cells o w e₀ st₀ e st
     arguments_done p =
         i.going e st
         (checks_room (λ arguments. []) (λ arguments. argument_errors (location_at s at) position (unfolded w cell) arguments) checks_none
         (λ work output ix arguments h q.
         sym (ap (λ (t : Ty). argument_errors (location_at s at) position (unfolded w cell) t) (none_shown s o stop (lent work output e w ix st) arguments place h p)
         ∙ argument_none (location_at s at) position (unfolded w cell))))
+
+    -- Cited by nothing here now
+    pub position_small : place < stop → position + 1 < 2 ^ 32
+    position_small p = omega (arith, i.low, i.filled.listed.long, i.filled.listed.few)
 
     pub argument_inside : place < stop → place + 16 + 4 ≤ length o
     argument_inside p = let f = first s place stop i.filled.listed p in omega (arith, f.slot, f.ends, i.filled.room)
@@ -91,11 +94,11 @@ module _ (s : List ℕ) (at from stop cells : ℕ) (o₀ w₀ e₀ : List ℕ) (
       pub cell_low : 1 ≤ cell
       cell_low = omega (arith, n)
 
-      pub cell_high : cell ≤ st.rows
+      pub cell_high : cell ≤ st₀.rows
       cell_high = i.is.high
 
       pub parameter_kind : kind_of (unfolded w cell) ≡ 13
-      parameter_kind = cell_kind w st.rows i.table cell 13 i.is cell_low
+      parameter_kind = cell_kind w st₀.rows tb cell 13 i.is cell_low
 
       pub cell_part : HasTypePart (unfolded w cell)
       cell_part = let k = parameter_kind in (omega (arith, k), λ z. absurd (omega (arith, k, z)))
@@ -103,30 +106,25 @@ module _ (s : List ℕ) (at from stop cells : ℕ) (o₀ w₀ e₀ : List ℕ) (
       pub cell_rest : 12 ≤ kind_of (unfolded w cell)
       cell_rest = let k = parameter_kind in omega (arith, k)
 
-      module _ (p : place < stop) (ty : ℕ) (part : TypePart w st.rows cell (first_of (unfolded w cell)) ty) (got : ℕ) (eg : Read (word_at o (place + 16)) 32 got) where
-        pub argument_types : TwoTypes w st.rows ty got
+      module _ (p : place < stop) (ty : ℕ) (part : TypePart w st₀.rows cell (first_of (unfolded w cell)) ty) (got : ℕ) (eg : Read (word_at o (place + 16)) 32 got) where
+        pub argument_types : TwoTypes w st₀.rows ty got
         argument_types =
-            record { table = i.table; first = part.is; second = subst (IsType w st.rows) (sym eg.is) (first_filled w st.rows s o place stop i.filled p).is }
+            record { table = tb; first = part.is; second = subst (IsType w st₀.rows) (sym eg.is) (first_filled w st₀.rows s o place stop i.filled p).is }
 
-        pub arguments_on : (b : Bool) → b ≡ types_are_assignable (unfolded w ty) (unfolded w got) → (cell' : ℕ) → CellPart w st.rows cell (kind_of (unfolded w cell)) (second_of (unfolded w cell)) cell'
-            → (o₁ w₁ e₁ : List ℕ) (st₁ : State) → o₁ ≡ o → w₁ ≡ w → ReportedUnless b (error_for s at 12 position ty got) e st e₁ st₁ → (len : ℕ) → Read (word_at s place) 32 len
-            → Arguments s at from stop cells o₀ w₀ e₀ st₀ (place + len) cell' (position + 1) o₁ w₁ e₁ st₁
+        pub arguments_on : (b : Bool) → b ≡ types_are_assignable (unfolded w ty) (unfolded w got) → (e₁ : List ℕ) (st₁ : State) → ReportedUnless b (error_for s at 12 position ty got) e st e₁ st₁
+            → (cell' : ℕ) → CellPart w st₀.rows cell (kind_of (unfolded w cell)) (second_of (unfolded w cell)) cell' → (len : ℕ) → Read (word_at s place) 32 len
+            → Arguments s at from stop cells o w e₀ st₀ (place + len) cell' (position + 1) e₁ st₁
         unfolding SpellsOperand is_type_operand operand_sort
-        arguments_on b eb cell' rest o₁ w₁ e₁ st₁ eo ew rep len el =
-            subst (λ (x : List ℕ). Arguments s at from stop cells o₀ w₀ e₀ st₀ (place + len) cell' (position + 1) x w₁ e₁ st₁) (sym eo)
-            (subst (λ (x : List ℕ). Arguments s at from stop cells o₀ w₀ e₀ st₀ (place + len) cell' (position + 1) o x e₁ st₁) (sym ew)
-            (subst (λ (x : ℕ). Arguments s at from stop cells o₀ w₀ e₀ st₀ x cell' (position + 1) o w e₁ st₁) (next_place s place stop i.filled.listed p len el)
+        arguments_on b eb e₁ st₁ rep cell' rest len el =
+            subst (λ (x : ℕ). Arguments s at from stop cells o w e₀ st₀ x cell' (position + 1) e₁ st₁) (next_place s place stop i.filled.listed p len el)
             (record {
-              table = subst (Table w) kept i.table;
-              filled = subst (λ (c : ℕ). SlotsFilled w c s o (stop_at s place) stop) kept (first_filled w st.rows s o place stop i.filled p).next;
-              is = subst (λ (c : ℕ). IsCell w c argument_kind cell') kept (subst (λ (k : ℕ). IsCell w st.rows k cell') parameter_kind rest.is);
+              rows = unless_rows rep ∙ i.rows;
+              filled = (first_filled w st₀.rows s o place stop i.filled p).next;
+              is = subst (λ (k : ℕ). IsCell w st₀.rows k cell') parameter_kind rest.is;
               low = let f = first s place stop i.filled.listed p in omega (arith, i.low, f.slot);
               going = λ e' st' later. i.going e' st' (turn e' st' later);
-            })))
+            })
           where
-            kept : st.rows ≡ st₁.rows
-            kept = sym (unless_rows rep)
-
             shown : (work output ix : List ℕ) (arguments : Ty) → ListShown s o place stop (lent work output e w ix st) arguments → Typing (lent work output e w ix st) got (first_of arguments)
             shown work output ix arguments h =
                 subst (λ (v : ℕ). Typing (lent work output e w ix st) v (first_of arguments)) (sym eg.is) (first_shown s o stop (lent work output e w ix st) arguments place h p).typing
@@ -151,7 +149,7 @@ module _ (s : List ℕ) (at from stop cells : ℕ) (o₀ w₀ e₀ : List ℕ) (
                 ∙ ap (λ (u : Ty). types_are_assignable (first_of (unfolded w cell)) u) ((shown work output ix arguments h).shows q).type)
                 (λ work output ix arguments h q.
                 spells_at s at 12 (refl, refl)
-                (refl, record { is = part.is; type = part.type })
+                (refl, record { is = subst (λ (c : ℕ). IsType w c ty) (sym i.rows) part.is; type = part.type })
                 (refl, (shown work output ix arguments h).shows q)))
                 (checks_at second_of (λ arguments. argument_errors (location_at s at) (position + 1) (unfolded w cell') arguments) later
                 (λ work output ix arguments h. (first_shown s o stop (lent work output e₁ w ix st₁) arguments place h p).rest))

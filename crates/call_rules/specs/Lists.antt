@@ -7,7 +7,7 @@ use Rattle.layout.specs.Layout.{max_bytes, stop_at}
 use Rattle.trees.specs.Record.{location_at}
 use Rattle.meaning.specs.Expression.{part_of, argument_errors, call_errors}
 use Rattle.walk.specs.declared.State.{State}
-use Rattle.walk.specs.Typed.{Typed}
+use Rattle.walk.specs.declared.Typed.{Typed}
 use Rattle.walk.specs.Effect.{reporting}
 use Rattle.walk.specs.Words.{slot_place, slot_end}
 use Rattle.walk.specs.Represents.{Lent, Typing}

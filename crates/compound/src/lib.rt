@@ -10,7 +10,7 @@ ghost use Rattle.walk.specs.Loans.{SameLoans};
 ghost use Rattle.convert.specs.Post.{Ready};
 ghost use Rattle.compound.specs.Post.{CarriedFieldNodes, CompoundCheckedNode};
 
-use compound_rules::{array_compound, check_repeats, struct_compound};
+use compound_rules::walked::{array_compound, check_repeats, struct_compound};
 use expression::{type_check_expression, type_check_expressions};
 use names::BuiltIns;
 use node::{Node, Nodes, children, enter};

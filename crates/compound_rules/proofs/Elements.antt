@@ -33,19 +33,18 @@ use Rattle.call_rules.proofs.Turns.{checks_at, checks_none}
 use Rattle.call_rules.proofs.Exits.{both_later, counted}
 use Rattle.compound_rules.specs.Elements.{CheckElements, ArrayCompound}
 
--- From the words o₀, w₀ and e₀ and the state st₀ on: whatever checks the rest, from those that there are now, checks the whole
-pub record Elements (s : List ℕ) (at from stop element : ℕ) (o₀ w₀ e₀ : List ℕ) (st₀ : State) (place : ℕ) (o w e : List ℕ) (st : State) : Type 0 where
+pub record Elements (s : List ℕ) (at from stop element : ℕ) (o w e₀ : List ℕ) (st₀ : State) (place : ℕ) (e : List ℕ) (st : State) : Type 0 where
   pub one : OneType w st.rows element
   pub filled : SlotsFilled w st.rows s o place stop
-  pub going : (e' : List ℕ) (st' : State) → CheckElements s at place stop element o w e st e' st' → CheckElements s at from stop element o₀ w₀ e₀ st₀ e' st'
+  pub going : (e' : List ℕ) (st' : State) → CheckElements s at place stop element o w e st e' st' → CheckElements s at from stop element o w e₀ st₀ e' st'
 
 element_turn : (l : Location) (t cells : Ty) → is argument_kind cells ≡ true → check_assignable l t (first_of cells) ++ element_errors l t (second_of cells) ≡ element_errors l t cells
 unfolding element_errors
 element_turn l t end q = absurd (true≢false (sym q))
 element_turn l t (node k a b z n) q = refl
 
-module _ (s : List ℕ) (at from stop element : ℕ) (o₀ w₀ e₀ : List ℕ) (st₀ : State) where
-  module _ (place : ℕ) (o w e : List ℕ) (st : State) (i : Elements s at from stop element o₀ w₀ e₀ st₀ place o w e st) where
+module _ (s : List ℕ) (at from stop element : ℕ) (o w e₀ : List ℕ) (st₀ : State) where
+  module _ (place : ℕ) (e : List ℕ) (st : State) (i : Elements s at from stop element o w e₀ st₀ place e st) where
     pub element_inside : place < stop → place + 16 + 4 ≤ length o
     element_inside p = let f = first s place stop i.filled.listed p in omega (arith, f.slot, f.ends, i.filled.room)
 
@@ -53,17 +52,15 @@ module _ (s : List ℕ) (at from stop element : ℕ) (o₀ w₀ e₀ : List ℕ)
     element_types p got eg =
         record { table = i.one.table; first = i.one.type; second = subst (IsType w st.rows) (sym eg.is) (first_filled w st.rows s o place stop i.filled p).is }
 
-    pub elements_on : place < stop → (got : ℕ) → Read (word_at o (place + 16)) 32 got → (o₁ w₁ e₁ : List ℕ) (st₁ : State) → o₁ ≡ o → w₁ ≡ w → CheckAssignable s at element got w e st e₁ st₁
-        → (len : ℕ) → Read (word_at s place) 32 len → Elements s at from stop element o₀ w₀ e₀ st₀ (place + len) o₁ w₁ e₁ st₁
-    elements_on p got eg o₁ w₁ e₁ st₁ eo ew told len el =
-        subst (λ (x : List ℕ). Elements s at from stop element o₀ w₀ e₀ st₀ (place + len) x w₁ e₁ st₁) (sym eo)
-        (subst (λ (x : List ℕ). Elements s at from stop element o₀ w₀ e₀ st₀ (place + len) o x e₁ st₁) (sym ew)
-        (subst (λ (x : ℕ). Elements s at from stop element o₀ w₀ e₀ st₀ x o w e₁ st₁) (next_place s place stop i.filled.listed p len el)
+    pub elements_on : place < stop → (got : ℕ) → Read (word_at o (place + 16)) 32 got → (e₁ : List ℕ) (st₁ : State) → CheckAssignable s at element got w e st e₁ st₁
+        → (len : ℕ) → Read (word_at s place) 32 len → Elements s at from stop element o w e₀ st₀ (place + len) e₁ st₁
+    elements_on p got eg e₁ st₁ told len el =
+        subst (λ (x : ℕ). Elements s at from stop element o w e₀ st₀ x e₁ st₁) (next_place s place stop i.filled.listed p len el)
         (record {
           one = subst (λ (n : ℕ). OneType w n element) (sym c.kept) i.one;
           filled = subst (λ (n : ℕ). SlotsFilled w n s o (stop_at s place) stop) (sym c.kept) (first_filled w st.rows s o place stop i.filled p).next;
           going = λ e' st' later. i.going e' st' (turn e' st' later);
-        })))
+        })
       where
         c : Checks (Two element got) (λ t. check_assignable (location_at s at) t.left t.right) w e st e₁ st₁
         c = assignable_checks element got s at told
@@ -84,7 +81,7 @@ module _ (s : List ℕ) (at from stop element : ℕ) (o₀ w₀ e₀ : List ℕ)
             (λ C C' cells g h. shown_later s o stop C C' cells place g h))
             (λ work output ix cells h q. element_turn (location_at s at) (unfolded w element) cells (first_shown s o stop (lent work output e w ix st) cells place h p).kind)
 
-    pub elements_done : stop ≤ place → CheckElements s at from stop element o₀ w₀ e₀ st₀ e st
+    pub elements_done : stop ≤ place → CheckElements s at from stop element o w e₀ st₀ e st
     unfolding element_errors
     elements_done p =
         i.going e st
@@ -108,10 +105,10 @@ module _ (s : List ℕ) (at target from stop : ℕ) (o w e e' : List ℕ) (st st
       rw z refl)
 
   pub array_filled : k ≡ 7 → SlotsFilled w st.rows s o from stop → (expected : ℕ) → expected ≡ size_of (unfolded w bare) → (got : ℕ) → CountsRecords s from stop got
-      → (element : ℕ) → TypePart w st.rows bare (first_of (unfolded w bare)) element → (o₁ w₁ e₁ : List ℕ) (st₁ : State) → o₁ ≡ o → w₁ ≡ w
-      → ReportedUnless (eqb expected got) (error_for s at 25 expected got 0) e st e₁ st₁ → CheckElements s at from stop element o₁ w₁ e₁ st₁ e' st' → ArrayCompound s at target from stop o w e st e' st'
+      → (element : ℕ) → TypePart w st.rows bare (first_of (unfolded w bare)) element → (e₁ : List ℕ) (st₁ : State)
+      → ReportedUnless (eqb expected got) (error_for s at 25 expected got 0) e st e₁ st₁ → CheckElements s at from stop element o w e₁ st₁ e' st' → ArrayCompound s at target from stop o w e st e' st'
   unfolding SpellsOperand is_type_operand operand_sort
-  array_filled q f expected ee got n element part o₁ w₁ e₁ st₁ eo ew rep c =
+  array_filled q f expected ee got n element part e₁ st₁ rep c =
       checks_room
       (λ x. unless (eqb expected (cell_count x.cells)) (compound_length (location_at s at) expected (cell_count x.cells)) ++ element_errors (location_at s at) (unfolded w element) x.cells)
       (λ x. array_errors (location_at s at) x.type x.cells)
@@ -120,7 +117,7 @@ module _ (s : List ℕ) (at target from stop : ℕ) (o w e e' : List ℕ) (st st
       (checks_unless (λ x. eqb expected (cell_count x.cells)) (λ x. compound_length (location_at s at) expected (cell_count x.cells)) rep
       (λ work output ix x y p. ap (eqb expected) (counted s o from stop f got n (lent work output e w ix st) x.cells y.shown))
       (λ work output ix x y p. spells_at s at 25 (refl, refl) (refl, counted s o from stop f got n (lent work output e w ix st) x.cells y.shown) (refl, refl)))
-      (checks_at (λ x. x.cells) (λ cells. element_errors (location_at s at) (unfolded w element) cells) elements (λ work output ix x y. y.shown))
+      (checks_at (λ x. x.cells) (λ cells. element_errors (location_at s at) (unfolded w element) cells) c (λ work output ix x y. y.shown))
       both_later)
       (λ work output ix x y p.
       let t : unfolded w bare ≡ desugar x.type = stripped work output ix x y p in
@@ -128,8 +125,3 @@ module _ (s : List ℕ) (at target from stop : ℕ) (o w e e' : List ℕ) (st st
       let many : expected ≡ size_of (desugar x.type) = ee ∙ ap size_of t in
       let each : unfolded w element ≡ first_of (desugar x.type) = part.type ∙ ap first_of t in
       rw (z, many, each) refl)
-    where
-      elements : CheckElements s at from stop element o w e₁ st₁ e' st'
-      elements =
-          subst (λ (y : List ℕ). CheckElements s at from stop element y w e₁ st₁ e' st') eo
-          (subst (λ (y : List ℕ). CheckElements s at from stop element o₁ y e₁ st₁ e' st') ew c)

@@ -6,7 +6,7 @@ use mathlib.Core.List.{List, [], ◌∷◌, ◌++◌}
 use mathlib.Core.Option.{Option, none, some}
 use native.Mathlib.Omega.{arith}
 use lib.ListN.{length}
-use Rattle.types.specs.Ty.{Ty, unknown, kind_of, first_of, field_named, struct_kind}
+use Rattle.types.specs.Ty.{Ty, unknown, first_of, field_named}
 use Rattle.types.specs.Table.{unfolded, IsType}
 use Rattle.types.specs.Post.{FoundType}
 use Rattle.relations.specs.TypeRows.{OneType}
@@ -132,19 +132,17 @@ module _ (s : List ℕ) (place bare : ℕ) (o w e e' : List ℕ) (st st' : State
         (λ work output ix v y p.
         ap (λ (z : Option Ty). field_fits (location_at s place) (word_at s (place + 16)) z v) (here (some (unfolded w field)) (found.type low)))
 
--- `check_fields`: from the words o₀, w₀ and e₀ and the state st₀ on
-pub record Checking (s : List ℕ) (from stop bare : ℕ) (o₀ w₀ e₀ : List ℕ) (st₀ : State) (place : ℕ) (o w e : List ℕ) (st : State) : Type 0 where
+-- `check_fields`
+pub record Checking (s : List ℕ) (from stop bare : ℕ) (o w e₀ : List ℕ) (st₀ : State) (place : ℕ) (e : List ℕ) (st : State) : Type 0 where
   pub one : OneType w st.rows bare
-  pub struct : kind_of (unfolded w bare) ≡ struct_kind
   pub filled : FilledFields w st.rows s o place stop
-  pub going : (e' : List ℕ) (st' : State) → CheckFields s place stop bare o w e st e' st' → CheckFields s from stop bare o₀ w₀ e₀ st₀ e' st'
+  pub going : (e' : List ℕ) (st' : State) → CheckFields s place stop bare o w e st e' st' → CheckFields s from stop bare o w e₀ st₀ e' st'
 
-pub checking_start : (s : List ℕ) (from stop bare : ℕ) (o w e : List ℕ) (st : State) → FilledFields w st.rows s o from stop → OneType w st.rows bare → kind_of (unfolded w bare) ≡ struct_kind
-    → Checking s from stop bare o w e st from o w e st
-checking_start s from stop bare o w e st f t k = record { one = t; struct = k; filled = f; going = λ e' st' c. c }
+module _ (s : List ℕ) (from stop bare : ℕ) (o w e₀ : List ℕ) (st₀ : State) where
+  pub checking_start : FilledFields w st₀.rows s o from stop → OneType w st₀.rows bare → Checking s from stop bare o w e₀ st₀ from e₀ st₀
+  checking_start f t = record { one = t; filled = f; going = λ e' st' c. c }
 
-module _ (s : List ℕ) (from stop bare : ℕ) (o₀ w₀ e₀ : List ℕ) (st₀ : State) where
-  module _ (place : ℕ) (o w e : List ℕ) (st : State) (i : Checking s from stop bare o₀ w₀ e₀ st₀ place o w e st) where
+  module _ (place : ℕ) (e : List ℕ) (st : State) (i : Checking s from stop bare o w e₀ st₀ place e st) where
     module _ (p : place < stop) where
       pub name_inside : place + 20 ≤ length s
       name_inside = let f = first s place stop i.filled.listed p in omega (arith, f.slot, f.ends, i.filled.listed.long)
@@ -158,18 +156,15 @@ module _ (s : List ℕ) (from stop bare : ℕ) (o₀ w₀ e₀ : List ℕ) (st�
       pub value_is : IsType w st.rows (word_at o (value_place place))
       value_is = (first_filled w st.rows s o place stop i.filled p).is
 
-      pub checking_on : (o₁ w₁ e₁ : List ℕ) (st₁ : State) → o₁ ≡ o → w₁ ≡ w → CheckField s place bare o w e st e₁ st₁ → (len : ℕ) → Read (word_at s place) 32 len
-          → Checking s from stop bare o₀ w₀ e₀ st₀ (place + len) o₁ w₁ e₁ st₁
-      checking_on o₁ w₁ e₁ st₁ eo ew c len el =
-          subst (λ (x : List ℕ). Checking s from stop bare o₀ w₀ e₀ st₀ (place + len) x w₁ e₁ st₁) (sym eo)
-          (subst (λ (x : List ℕ). Checking s from stop bare o₀ w₀ e₀ st₀ (place + len) o x e₁ st₁) (sym ew)
-          (subst (λ (x : ℕ). Checking s from stop bare o₀ w₀ e₀ st₀ x o w e₁ st₁) (next_place s place stop i.filled.listed p len el)
+      pub checking_on : (e₁ : List ℕ) (st₁ : State) → CheckField s place bare o w e st e₁ st₁ → (len : ℕ) → Read (word_at s place) 32 len
+          → Checking s from stop bare o w e₀ st₀ (place + len) e₁ st₁
+      checking_on e₁ st₁ c len el =
+          subst (λ (x : ℕ). Checking s from stop bare o w e₀ st₀ x e₁ st₁) (next_place s place stop i.filled.listed p len el)
           (record {
             one = subst (λ (n : ℕ). OneType w n bare) (sym c.kept) i.one;
-            struct = i.struct;
             filled = subst (λ (n : ℕ). FilledFields w n s o (stop_at s place) stop) (sym c.kept) (first_filled w st.rows s o place stop i.filled p).next;
             going = λ e' st' later. i.going e' st' (turn e' st' later);
-          })))
+          })
         where
           first_fits : (ctx : Context) (fields : List CompoundField) → FieldsAt s stop fields place
               → field_fits (location_at s place) (word_at s (place + 16)) (field_named (word_at s (place + 16)) (first_of (unfolded w bare))) (first_type ctx fields)
@@ -200,7 +195,7 @@ module _ (s : List ℕ) (from stop bare : ℕ) (o₀ w₀ e₀ : List ℕ) (st�
               ap (λ (l : List TypeError). l ++ field_errors_against (first_of (unfolded w bare)) x.ctx (others x.fields)) (first_fits x.ctx x.fields h.stand)
               ∙ each_first (λ f. field_fits f.location f.name (field_named f.name (first_of (unfolded w bare))) (expression_type x.ctx f.value)) x.fields)
 
-    pub checking_done : stop ≤ place → CheckFields s from stop bare o₀ w₀ e₀ st₀ e st
+    pub checking_done : stop ≤ place → CheckFields s from stop bare o w e₀ st₀ e st
     unfolding each
     checking_done p =
         i.going e st

@@ -1,5 +1,5 @@
 -- Names that stand more than once, and the whole struct compound. Assumes nothing.
-use Prim.Native.Nat.{ℕ, suc, ◌+◌, ◌≤◌, ◌<◌}
+use Prim.Native.Nat.{ℕ, suc, ◌+◌, ◌^◌, ◌≤◌, ◌<◌}
 use mathlib.Core.Path.{◌≡◌, refl, sym, ap, ◌∙◌, subst}
 use mathlib.Core.Bool.{Bool, true, false, cond}
 use mathlib.Core.List.{List, [], ◌∷◌, ◌++◌}
@@ -8,7 +8,7 @@ use lib.Dec.{eqb, leb}
 use mir.Val.{bool_byte}
 use lib.ListN.{length}
 use borrow.Author.Tests.{eq-eqb, ne_eqb}
-use Rattle.types.specs.Ty.{Ty, kind_of, first_of, desugar}
+use Rattle.types.specs.Ty.{Ty, kind_of, first_of, desugar, struct_kind}
 use Rattle.types.specs.Table.{unfolded}
 use Rattle.types.specs.Post.{TypePart}
 use Rattle.record_bytes.specs.Bytes.{Read, word_at}
@@ -42,6 +42,10 @@ module _ (s : List ℕ) (from stop name at count : ℕ) (i : Occurring s from st
   module _ (p : at < stop) where
     pub name_word : at + 16 + 4 ≤ length s
     name_word = let f = first s at stop i.listed p in omega (arith, f.slot, f.ends, i.listed.long)
+
+    -- Cited by nothing here now
+    pub occurring_small : count + 1 < 2 ^ 32
+    occurring_small = omega (arith, i.few, i.listed.long, i.listed.few)
 
     one_more : (b : Bool) → bool_byte b ≤ 1
     one_more true = omega arith
@@ -174,6 +178,10 @@ module _ (s : List ℕ) (at target from stop : ℕ) (o w e e' : List ℕ) (st st
       (λ work output ix x y p.
       let z : eqb (kind_of (desugar x.target)) 8 ≡ false = ne_eqb (kind_of (desugar x.target)) 8 (λ u. q (ek ∙ ap kind_of (stripped work output ix x y p) ∙ u)) in
       rw z refl)
+
+  -- Cited by nothing here now
+  pub struct_kind_lem : k ≡ 8 → kind_of (unfolded w bare) ≡ struct_kind
+  struct_kind_lem q = sym ek ∙ q
 
   pub struct_filled : k ≡ 8 → CheckFields s from stop bare o w e st e' st' → StructCompound s at target from stop o w e st e' st'
   struct_filled q c =

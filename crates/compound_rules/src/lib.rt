@@ -1,6 +1,7 @@
 // Compounds, once their elements or the values of their fields are typed. The rows of these are read back from their slots.
 #![tactic(auto)]
-// Rows and slots are read through a reborrow: of a field that is lent as `&[u32]` only the length is known afterwards.
+
+pub mod walked;
 
 ghost use Rattle.std.specs.Prelude.{◌+◌, ◌≤◌, ◌<◌, length, replicate, ◌≡◌};
 ghost use Rattle.types.specs.Ty.{struct_kind, kind_of};
@@ -8,7 +9,6 @@ ghost use Rattle.types.specs.Table.{IsType, unfolded};
 ghost use Rattle.record_bytes.specs.Bytes.{word_at, head_end, field_end};
 ghost use Rattle.relations.specs.TypeRows.{OneType};
 ghost use Rattle.call_rules.specs.Lists.{RecordsListed, SlotsFilled};
-ghost use Rattle.walk.specs.Loans.{OnlyErrors};
 ghost use Rattle.compound_rules.specs.Elements.{CheckElements, ArrayCompound};
 ghost use Rattle.compound_rules.specs.Fields.{value_place, FilledFields, CheckField, CheckFields, Occurs};
 ghost use Rattle.compound_rules.specs.Fields.{entries, with_name, Tallied, Single, CheckRepeats};
@@ -21,24 +21,34 @@ use fallible::kinds::{
     FIELD_ASSIGNED_TWICE, NO_ARRAY_TARGET, NO_STRUCT_TARGET, NO_SUCH_TARGET_FIELD, WRONG_LENGTH,
 };
 use record_bytes::{FIELD_END, HEAD_END, length_at, word};
-use walk::Walk;
+use walk::State;
 
 // The elements from `from` to `end` against the element type; errors stand at the record at `at`.
-fn check_elements(s: &[u8], at: usize, from: usize, end: usize, element: u32, walk: &mut Walk<'_>)
-    requires { (head_end at ≤ length s.now) × SlotsFilled walk.old.rows.now walk.old.state.rows s.now walk.old.output.now from end
-        × OneType walk.old.rows.now walk.old.state.rows element }
-    ensures effect { CheckElements s.now at from end element
-        walk.old.output.now walk.old.rows.now walk.old.errors.now walk.old.state
-        walk.new.errors.now walk.new.state }
-    ensures loans { OnlyErrors walk.old walk.new }
+fn check_elements(
+    s: &[u8],
+    at: usize,
+    from: usize,
+    end: usize,
+    element: u32,
+    output: &[u8],
+    errors: &mut [u32],
+    rows: &[u32],
+    state: State,
+) -> State
+    requires { (head_end at ≤ length s.now) × SlotsFilled rows.now state.rows s.now output.now from end
+        × OneType rows.now state.rows element }
+    ensures { CheckElements s.now at from end element
+        output.now rows.now errors.old state
+        errors.new result }
 {
     let mut place = from;
+    let mut next = state;
     while place < end {
-        let output = &mut *walk.output;
         let got = word(output, place + HEAD_END);
-        check_types_are_assignable(s, at, element, got, walk);
+        next = check_types_are_assignable(s, at, element, got, errors, rows, next);
         place += length_at(s, place);
     }
+    next
 }
 
 // An array compound for a target of the type row `target`.
@@ -48,68 +58,83 @@ pub fn array_compound(
     target: u32,
     from: usize,
     end: usize,
-    walk: &mut Walk<'_>,
-)
-    requires { (head_end at ≤ length s.now) × SlotsFilled walk.old.rows.now walk.old.state.rows s.now walk.old.output.now from end
-        × OneType walk.old.rows.now walk.old.state.rows target }
-    ensures effect { ArrayCompound s.now at target from end
-        walk.old.output.now walk.old.rows.now walk.old.errors.now walk.old.state
-        walk.new.errors.now walk.new.state }
-    ensures loans { OnlyErrors walk.old walk.new }
+    output: &[u8],
+    errors: &mut [u32],
+    rows: &[u32],
+    state: State,
+) -> State
+    requires { (head_end at ≤ length s.now) × SlotsFilled rows.now state.rows s.now output.now from end
+        × OneType rows.now state.rows target }
+    ensures { ArrayCompound s.now at target from end
+        output.now rows.now errors.old state
+        errors.new result }
 {
-    let count = walk.state.rows;
-    let rows = &mut *walk.rows;
-    let bare = types::desugar(rows, count, target);
-    if types::kind(rows, count, bare) != types::ARRAY {
-        walk.report(error_at(s, at, NO_ARRAY_TARGET, target, 0, 0));
-        return;
+    let bare = types::desugar(rows, state.rows, target);
+    if types::kind(rows, state.rows, bare) != types::ARRAY {
+        let error = error_at(s, at, NO_ARRAY_TARGET, target, 0, 0);
+        return walk::report(errors, state, error);
     }
-    let expected = types::size(rows, count, bare);
-    let element = types::part(rows, count, bare);
+    let expected = types::size(rows, state.rows, bare);
     let got = count_records(s, from, end);
+    let element = types::part(rows, state.rows, bare);
+    let kind = WRONG_LENGTH;
     let holds = expected == got;
-    report_unless(holds, s, at, WRONG_LENGTH, expected, got, 0, walk);
-    check_elements(s, at, from, end, element, walk);
+    let next = report_unless(holds, s, at, kind, expected, got, 0, errors, state);
+    check_elements(s, at, from, end, element, output, errors, rows, next)
 }
 
 // The field at `place` against the struct type of row `bare`.
-fn check_field(s: &[u8], place: usize, bare: u32, walk: &mut Walk<'_>)
-    requires place_in_bounds { (field_end place ≤ length s.now) × (value_place place + 4 ≤ length walk.old.output.now)
-        × OneType walk.old.rows.now walk.old.state.rows bare }
-    requires bare_value { (kind_of (unfolded walk.old.rows.now bare) ≡ struct_kind)
-        × IsType walk.old.rows.now walk.old.state.rows (word_at walk.old.output.now (value_place place)) }
-    ensures effect { CheckField s.now place bare
-        walk.old.output.now walk.old.rows.now walk.old.errors.now walk.old.state
-        walk.new.errors.now walk.new.state }
-    ensures loans { OnlyErrors walk.old walk.new }
+fn check_field(
+    s: &[u8],
+    place: usize,
+    bare: u32,
+    output: &[u8],
+    errors: &mut [u32],
+    rows: &[u32],
+    state: State,
+) -> State
+    requires place_in_bounds { (field_end place ≤ length s.now) × (value_place place + 4 ≤ length output.now)
+        × OneType rows.now state.rows bare }
+    requires bare_value { (kind_of (unfolded rows.now bare) ≡ struct_kind)
+        × IsType rows.now state.rows (word_at output.now (value_place place)) }
+    ensures { CheckField s.now place bare
+        output.now rows.now errors.old state
+        errors.new result }
 {
     let name = word(s, place + HEAD_END);
-    let count = walk.state.rows;
-    let rows = &mut *walk.rows;
-    let field = types::field_named(rows, count, bare, name);
+    let field = types::field_named(rows, state.rows, bare, name);
     if field == 0 {
-        walk.report(error_at(s, place, NO_SUCH_TARGET_FIELD, name, 0, 0));
-        return;
+        let error = error_at(s, place, NO_SUCH_TARGET_FIELD, name, 0, 0);
+        return walk::report(errors, state, error);
     }
-    let output = &mut *walk.output;
     let got = word(output, place + FIELD_END + HEAD_END);
-    check_types_are_assignable(s, place, field, got, walk);
+    check_types_are_assignable(s, place, field, got, errors, rows, state)
 }
 
 // The fields from `from` to `end` against the struct type of row `bare`.
-fn check_fields(s: &[u8], from: usize, end: usize, bare: u32, walk: &mut Walk<'_>)
-    requires filled_fields { FilledFields walk.old.rows.now walk.old.state.rows s.now walk.old.output.now from end }
-    requires one_type { OneType walk.old.rows.now walk.old.state.rows bare × (kind_of (unfolded walk.old.rows.now bare) ≡ struct_kind) }
-    ensures effect { CheckFields s.now from end bare
-        walk.old.output.now walk.old.rows.now walk.old.errors.now walk.old.state
-        walk.new.errors.now walk.new.state }
-    ensures loans { OnlyErrors walk.old walk.new }
+fn check_fields(
+    s: &[u8],
+    from: usize,
+    end: usize,
+    bare: u32,
+    output: &[u8],
+    errors: &mut [u32],
+    rows: &[u32],
+    state: State,
+) -> State
+    requires filled_fields { FilledFields rows.now state.rows s.now output.now from end }
+    requires one_type { OneType rows.now state.rows bare × (kind_of (unfolded rows.now bare) ≡ struct_kind) }
+    ensures { CheckFields s.now from end bare
+        output.now rows.now errors.old state
+        errors.new result }
 {
     let mut place = from;
+    let mut next = state;
     while place < end {
-        check_field(s, place, bare, walk);
+        next = check_field(s, place, bare, output, errors, rows, next);
         place += length_at(s, place);
     }
+    next
 }
 
 // How many fields from `from` to `end` have a name.
@@ -167,37 +192,40 @@ fn is_single(s: &[u8], from: usize, end: usize, table: &[u8], name: u32) -> bool
 }
 
 // An error at each field from `from` to `end` whose name another has too. The table may be empty.
-fn report_repeats(s: &[u8], from: usize, end: usize, table: &[u8], walk: &mut Walk<'_>)
+fn report_repeats(
+    s: &[u8],
+    from: usize,
+    end: usize,
+    table: &[u8],
+    errors: &mut [u32],
+    state: State,
+) -> State
     requires { RecordsListed s.now from end × Tallied s.now from end table.now }
-    ensures effect { CheckRepeats s.now from end
-        walk.old.errors.now walk.old.state
-        walk.new.errors.now walk.new.state }
-    ensures loans { OnlyErrors walk.old walk.new }
+    ensures { CheckRepeats s.now from end errors.old state errors.new result }
 {
     let mut at = from;
+    let mut next = state;
     while at < end {
         let name = word(s, at + HEAD_END);
         let once = is_single(s, from, end, table, name);
-        report_unless(once, s, at, FIELD_ASSIGNED_TWICE, name, 0, 0, walk);
+        next = report_unless(once, s, at, FIELD_ASSIGNED_TWICE, name, 0, 0, errors, next);
         at += length_at(s, at);
     }
+    next
 }
 
 // An error at each field from `from` to `end` whose name another has too. In a long list the names are first counted
 // into a table.
-pub fn check_repeats(s: &[u8], from: usize, end: usize, walk: &mut Walk<'_>)
+pub fn check_repeats(s: &[u8], from: usize, end: usize, errors: &mut [u32], state: State) -> State
     requires { RecordsListed s.now from end }
-    ensures effect { CheckRepeats s.now from end
-        walk.old.errors.now walk.old.state
-        walk.new.errors.now walk.new.state }
-    ensures loans { OnlyErrors walk.old walk.new }
+    ensures { CheckRepeats s.now from end errors.old state errors.new result }
 {
     if end - from < LONG {
-        report_repeats(s, from, end, b"", walk);
+        report_repeats(s, from, end, b"", errors, state)
     } else {
         let mut table = [0u8; ENTRIES];
         count_names(s, from, end, &mut table);
-        report_repeats(s, from, end, &table, walk);
+        report_repeats(s, from, end, &table, errors, state)
     }
 }
 
@@ -208,22 +236,22 @@ pub fn struct_compound(
     target: u32,
     from: usize,
     end: usize,
-    walk: &mut Walk<'_>,
-)
+    output: &[u8],
+    errors: &mut [u32],
+    rows: &[u32],
+    state: State,
+) -> State
     requires { (head_end at ≤ length s.now)
-        × FilledFields walk.old.rows.now walk.old.state.rows s.now walk.old.output.now from end
-        × OneType walk.old.rows.now walk.old.state.rows target }
-    ensures effect { StructCompound s.now at target from end
-        walk.old.output.now walk.old.rows.now walk.old.errors.now walk.old.state
-        walk.new.errors.now walk.new.state }
-    ensures loans { OnlyErrors walk.old walk.new }
+        × FilledFields rows.now state.rows s.now output.now from end
+        × OneType rows.now state.rows target }
+    ensures { StructCompound s.now at target from end
+        output.now rows.now errors.old state
+        errors.new result }
 {
-    let count = walk.state.rows;
-    let rows = &mut *walk.rows;
-    let bare = types::desugar(rows, count, target);
-    if types::kind(rows, count, bare) != types::STRUCT {
-        walk.report(error_at(s, at, NO_STRUCT_TARGET, target, 0, 0));
-        return;
+    let bare = types::desugar(rows, state.rows, target);
+    if types::kind(rows, state.rows, bare) != types::STRUCT {
+        let error = error_at(s, at, NO_STRUCT_TARGET, target, 0, 0);
+        return walk::report(errors, state, error);
     }
-    check_fields(s, from, end, bare, walk);
+    check_fields(s, from, end, bare, output, errors, rows, state)
 }

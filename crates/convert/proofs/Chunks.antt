@@ -14,7 +14,7 @@ use Rattle.node.specs.Fine.{FineNodes}
 use Rattle.node.specs.declared.Nodes.{Nodes}
 use Rattle.shape.proofs.Cases.{by_number}
 use Rattle.walk.specs.declared.State.{State}
-use Rattle.walk.specs.Typed.{Typed}
+use Rattle.walk.specs.declared.Typed.{Typed}
 use Rattle.walk.specs.Represents.{Lent, lent}
 use Rattle.walk.specs.Post.{Makes}
 use Rattle.walk.specs.Cells.{CellsMade, CellsOk}

@@ -7,7 +7,7 @@ use Rattle.types.specs.declared.Row.TheVariants.{Field}
 use Rattle.shape.specs.declared.Holds.TheVariants.{Fields}
 use Rattle.node.specs.Fine.{FineNodes}
 use Rattle.node.specs.declared.Nodes.{Nodes}
-use Rattle.walk.specs.Typed.{Typed}
+use Rattle.walk.specs.declared.Typed.{Typed}
 use Rattle.walk.specs.Represents.{Lent, lent}
 use Rattle.walk.specs.Cells.{CellsMade}
 use Rattle.convert.specs.Post.{Ready, FieldsConverted}

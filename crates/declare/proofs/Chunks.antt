@@ -19,7 +19,7 @@ use Rattle.node.specs.declared.Nodes.{Nodes}
 use Rattle.names.specs.declared.BuiltIns.{BuiltIns}
 use Rattle.shape.proofs.Cases.{by_number}
 use Rattle.walk.specs.declared.State.{State}
-use Rattle.walk.specs.Typed.{Typed}
+use Rattle.walk.specs.declared.Typed.{Typed}
 use Rattle.walk.specs.Represents.{Lent, lent}
 use Rattle.walk.specs.Post.{Makes}
 use Rattle.walk.specs.Cells.{CellsMade, CellsOk}
@@ -28,11 +28,23 @@ use Rattle.convert.specs.Chunk.{nodes_from}
 use Rattle.convert.specs.declared.Chunk.{Chunk}
 use Rattle.convert.specs.Post.{Ready, ConvertedNode}
 use Rattle.convert.proofs.Heads.{ready_later}
-use Rattle.declare.specs.Chunk.{chunk, argument_cell, ParametersConvertedTo, ParametersChunk}
+use Rattle.declare.specs.Chunk.{chunk, argument_cell, HasParameter, ParametersConvertedTo, ParametersChunk}
 use Rattle.declare.specs.Post.{ParameterFound, ParameterEnd, ConvertedParameters}
 use Rattle.declare.proofs.Parameters.{parameters_cell}
 
 module _ (s : List ℕ) (list : Nodes) where
+  -- A parameter that ends somewhere is one. Cited by nothing here now
+  pub has_parameter : (next : ℕ) → ParameterEnd s list.depth list.from list.end (Some next) → HasParameter s list
+  has_parameter next found none = let e = sym none ∙ found.tree in let z : ◌≡◌ {A = ℕ} 0 1 = cc in omega arith
+
+  -- Where none is left, some were converted. Cited by nothing here now
+  pub some_converted : (count at : ℕ) → HasParameter s list → (count ≡ 0 → at ≡ list.from) → (r : Option ℕ) → ParameterEnd s list.depth at list.end r → is_some r ≡ false → 1 ≤ count
+  some_converted count at has start (Some next) found none = absurd (true≢false none)
+  some_converted count at has start None found none =
+      by_number count 0
+      (λ e. absurd (has (subst (λ (x : ℕ). parameters_at s list.depth x list.end ≡ []) (start e) found)))
+      (λ e. omega arith)
+
   pub no_parameter : (r : Option ℕ) → ParameterEnd s list.depth list.from list.end r → is_some r ≡ false → parameters_at s list.depth list.from list.end ≡ []
   no_parameter (Some next) found none = absurd (true≢false none)
   no_parameter None found none = found

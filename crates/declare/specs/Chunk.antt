@@ -8,7 +8,7 @@ use Rattle.trees.specs.Record.{parameters_at}
 use Rattle.node.specs.Fine.{FineNodes}
 use Rattle.node.specs.declared.Nodes.{Nodes}
 use Rattle.names.specs.declared.BuiltIns.{BuiltIns}
-use Rattle.walk.specs.Typed.{Typed}
+use Rattle.walk.specs.declared.Typed.{Typed}
 use Rattle.walk.specs.Represents.{Lent, lent}
 use Rattle.walk.specs.Cells.{CellsMade}
 use Rattle.convert.specs.Chunk.{nodes_from}

@@ -14,9 +14,9 @@ ghost use Rattle.convert.specs.Post.{Ready};
 ghost use Rattle.expression.specs.Post.{LeafIn, LeafReady, LeafCarried, OneOperandIn, TwoOperandsIn};
 ghost use Rattle.expression.specs.Post.{CarriedNode, CarriedNodes};
 
-use call_rules::call_result;
+use call_rules::walked::call_result;
 use convert::{Pass, convert_node_type};
-use expression_rules::{binary, identifier, integer, unary};
+use expression_rules::walked::{binary, identifier, integer, unary};
 use names::BuiltIns;
 use node::{Entered, Node, Nodes, enter, inside};
 use record_bytes::{FIELD_END, KIND, half, length_at};
@@ -140,7 +140,7 @@ fn cast(s: &[u8], names: BuiltIns, work: &[u32], node: Node, walk: &mut Walk<'_>
     let second = Node { at: place, depth };
     let pass = Pass { names, fill: true };
     let ty = convert_node_type(s, pass, work, second, walk);
-    expression_rules::cast(s, node.at, value, ty, walk);
+    expression_rules::walked::cast(s, node.at, value, ty, walk);
     walk.put_slot(node.at, ty);
     ty
 }

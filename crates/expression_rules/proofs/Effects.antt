@@ -17,7 +17,7 @@ use Rattle.meaning.specs.TypeError.{TypeError, unless, unknown_identifier}
 use Rattle.meaning.specs.Context.{or_unknown, resolve_identifier}
 use Rattle.meaning.specs.Expression.{check_assignable}
 use Rattle.walk.specs.declared.State.{State}
-use Rattle.walk.specs.Typed.{Typed}
+use Rattle.walk.specs.declared.Typed.{Typed}
 use Rattle.walk.specs.Effect.{reporting}
 use Rattle.walk.specs.Represents.{Lent, lent, Good, Shows, Scope}
 use Rattle.walk.specs.Post.{Makes, Tells, WalkedTo}

@@ -17,7 +17,7 @@ use Rattle.relations.specs.Relations.{is_integral_kind, types_are_assignable, is
 use Rattle.relations.proofs.CastLaws.{same_rows}
 use Rattle.std.specs.Prelude as code
 use Rattle.literal.specs.Literal.{from_str_radix, parsed_value}
-use Rattle.record_bytes.specs.Bytes.{Read, word_at}
+use Rattle.record_bytes.specs.Bytes.{Read, half_at, word_at}
 use Rattle.trees.specs.Record.{location_at}
 use Rattle.fallible.specs.declared.Error.{Error}
 use Rattle.fallible.specs.Operands.{is_type_operand, operand_sort}
@@ -25,7 +25,7 @@ use Rattle.meaning.specs.TypeError.{row, error, unused, unless}
 use Rattle.meaning.specs.Context.{is_some, or_unknown}
 use Rattle.meaning.specs.Expression.{part_of, computes}
 use Rattle.walk.specs.declared.State.{State}
-use Rattle.walk.specs.Typed.{typed}
+use Rattle.walk.specs.declared.Typed.{Typed}
 use Rattle.walk.specs.Represents.{Shows, SpellsOperand}
 use Rattle.walk.specs.Post.{Reported, Tells}
 use Rattle.walk.proofs.Telling.{tells_one, tells_then, tells_rows}
@@ -158,9 +158,9 @@ module _ (s : List ℕ) (at left place right : ℕ) (w e e' : List ℕ) (st st' 
   unfolding is_type_operand operand_sort
   assigned b eb rep = tells_pair 8 refl refl refl (types_are_assignable (unfolded w left) (unfolded w right)) b eb rep
 
-module _ (kind : ℕ) (s : List ℕ) (at left place right : ℕ) (w e e' : List ℕ) (st st' : State) (ty : ℕ) where
-  pub compared : (kind ≡ 37 → ⊥) → (kind ≡ 44 → ⊥) → (kind ≡ 45 → ⊥) → TwoTypes w st.rows left right → Arithmetic s at 9 left right w e st e' (typed ty st')
-      → Binary kind s at left place right w e st e' (typed 3 st')
+module _ (kind : ℕ) (s : List ℕ) (at left place right : ℕ) (w e e' : List ℕ) (st : State) (r : Typed) where
+  pub compared : (kind ≡ 37 → ⊥) → (kind ≡ 44 → ⊥) → (kind ≡ 45 → ⊥) → TwoTypes w st.rows left right → Arithmetic s at 9 left right w e st e' r
+      → Binary kind s at left place right w e st e' (record { ty = 3; state = r.state })
   compared n37 n44 n45 two a =
       rw (ne_eqb kind 37 n37, ne_eqb kind 44 n44, ne_eqb kind 45 n45)
       (record { shows = record { is = fixed_is w st.rows two.table 3 (omega arith) (omega arith); type = bool_row_lem w st.rows two.table }; tells = a.tells })
@@ -177,7 +177,12 @@ identified s work at e e' st st' name en found ef rep r er =
       tells = λ w. tells_unless (not (eqb (resolved_word work (word_at s (at + 20))) 0)) (ap (λ (v : ℕ). not (eqb v 0)) there) rep (spells_at s at 10 (refl, en.is) (refl, refl) (refl, refl));
     }
 
--- A literal
+-- A literal. The first is cited by nothing here now
+pub literal_error_lem : (s : List ℕ) (at f l col p : ℕ) → Read (half_at s (at + 6)) 16 f → Read (word_at s (at + 8)) 32 l → Read (word_at s (at + 12)) 32 col → p ≡ at
+    → record { kind = 23; file = f; line = l; column = col; first = 0; second = 0; third = 0; place = p } ≡ literal_error s at
+literal_error_lem s at f l col p rf rl rc ep =
+    λ i. record { kind = 23; file = rf.is i; line = rl.is i; column = rc.is i; first = 0; second = 0; third = 0; place = ep i }
+
 module _ (s : List ℕ) (at base : ℕ) (eb : Read (word_at s (at + 20)) 32 base) (len : ℕ) (el : Read (word_at s at) 32 len)
     (parsed : code.Option ℕ) (ep : parsed_value parsed ≡ from_str_radix base (take (at + len - (at + 24)) (drop (at + 24) s))) (e : List ℕ) (st : State) where
   read : parsed_value parsed ≡ from_str_radix (word_at s (at + 20)) (digits_at s at)

@@ -19,7 +19,7 @@ use Rattle.meaning.specs.Convert.{slot}
 use Rattle.meaning.specs.Expression.{location_of, expression_type, expression_errors, expression_slots, part_of, field_type}
 use Rattle.meaning.specs.Expression.{field_errors, arithmetic_type, arithmetic_errors, comparison_operator, check_assignable}
 use Rattle.walk.specs.declared.State.{State}
-use Rattle.walk.specs.Typed.{Typed}
+use Rattle.walk.specs.declared.Typed.{Typed}
 use Rattle.walk.specs.Effect.{Effect, reporting}
 use Rattle.walk.specs.Represents.{Lent, lent, Good, Shows, Typing}
 use Rattle.walk.specs.Post.{Makes, Reported, Tells, Walked, WalkedTo}

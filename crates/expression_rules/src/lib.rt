@@ -1,6 +1,7 @@
 // What each kind of expression adds once its parts are typed: its type and its errors. No slot is stored here.
 #![tactic(auto)]
-// Rows are read through a reborrow: of a field that is lent as `&[u32]` only the length is known afterwards.
+
+pub mod walked;
 
 ghost use Rattle.std.specs.Prelude.{◌≡◌, ◌+◌, ◌*◌, ◌≤◌, length};
 ghost use Rattle.shape.specs.Kinds as kinds;
@@ -16,8 +17,6 @@ ghost use Rattle.meaning.specs.Promise.{work_width};
 ghost use Rattle.types.specs.declared.Row.TheVariants.{Pointer};
 ghost use Rattle.walk.specs.Represents.{Shows};
 ghost use Rattle.walk.specs.Post.{Makes};
-ghost use Rattle.walk.specs.Loans.{OnlyErrors, OnlyRows, SameOutput};
-ghost use Rattle.walk.specs.Typed.{typed};
 ghost use Rattle.expression_rules.specs.Words.{or_unknown_row, resolved_word};
 ghost use Rattle.convert.specs.Post.{error_for};
 ghost use Rattle.expression_rules.specs.Rules.{ReportedUnless, Identifier, literal_error, Integer, Unary, UnaryKept, Binary};
@@ -35,7 +34,7 @@ use shape::kinds::{
     POINTER_TAKE,
 };
 use types::Row;
-use walk::{ARGUMENT, GLOBAL, LOCAL, Walk};
+use walk::{ARGUMENT, GLOBAL, LOCAL, State, Typed};
 
 // The operator that an error names at a comparison.
 const COMPARISON_OPERATOR: u32 = 9;
@@ -49,17 +48,19 @@ pub fn report_unless(
     first: u32,
     second: u32,
     third: u32,
-    walk: &mut Walk<'_>,
-)
+    errors: &mut [u32],
+    state: State,
+) -> State
     requires { head_end at ≤ length s.now }
-    ensures effect { ReportedUnless holds (error_for s.now at kind first second third)
-        walk.old.errors.now walk.old.state
-        walk.new.errors.now walk.new.state }
-    ensures loans { OnlyErrors walk.old walk.new }
+    ensures { ReportedUnless holds (error_for s.now at kind first second third)
+        errors.old state
+        errors.new result }
 {
-    if !holds {
-        walk.report(convert::error_at(s, at, kind, first, second, third));
+    if holds {
+        return state;
     }
+    let error = convert::error_at(s, at, kind, first, second, third);
+    walk::report(errors, state, error)
 }
 
 // The row that was found, or Unknown.
@@ -98,18 +99,19 @@ fn resolve_identifier(work: &[u32], name: u32) -> u32
 }
 
 // An identifier.
-pub fn identifier(s: &[u8], work: &[u32], at: usize, walk: &mut Walk<'_>) -> u32
+pub fn identifier(s: &[u8], work: &[u32], at: usize, errors: &mut [u32], state: State) -> Typed
     requires at_in_bounds { fields_end at ≤ length s.now }
     requires at_in_bounds_2 { work_width * (word_at s.now (field_end at) + 1) ≤ length work.now }
-    ensures effect { Identifier s.now work.now at
-        walk.old.errors.now walk.old.state
-        walk.new.errors.now (typed result walk.new.state) }
-    ensures loans { OnlyErrors walk.old walk.new }
+    ensures { Identifier s.now work.now at errors.old state errors.new result }
 {
     let name = word(s, at + FIELD_END);
     let row = resolve_identifier(work, name);
-    report_unless(row != 0, s, at, UNKNOWN_IDENTIFIER, name, 0, 0, walk);
-    or_unknown(row)
+    let kind = UNKNOWN_IDENTIFIER;
+    let next = report_unless(row != 0, s, at, kind, name, 0, 0, errors, state);
+    Typed {
+        ty: or_unknown(row),
+        state: next,
+    }
 }
 
 // The error of the bad literal at `at`, the one error that has a place.
@@ -124,159 +126,212 @@ fn literal_error(s: &[u8], at: usize) -> Error
 }
 
 // An integer literal: u16, even where it is out of range.
-pub fn integer(s: &[u8], at: usize, walk: &mut Walk<'_>) -> u32
+pub fn integer(
+    s: &[u8],
+    at: usize,
+    errors: &mut [u32],
+    index: &[u16; row_index::LENGTH],
+    state: State,
+) -> Typed
     requires at_bound { (fields_end at ≤ stop_at s.now at) × (stop_at s.now at ≤ length s.now) × (length s.now ≤ max_bytes) }
-    requires digit_table { DigitTable (digits_in walk.old.index.now) }
-    ensures effect { Integer s.now at
-        walk.old.errors.now walk.old.state
-        walk.new.errors.now (typed result walk.new.state) }
-    ensures loans { OnlyErrors walk.old walk.new }
+    requires digit_table { DigitTable (digits_in index.now) }
+    ensures { Integer s.now at errors.old state errors.new result }
 {
     let base = word(s, at + FIELD_END);
     let start = at + FIELDS_END;
     let stop = at + length_at(s, at);
-    let words = &walk.index[..];
+    let words = &index[..];
     let table = &words[row_index::DIGITS..];
     let parsed = literal::from_str_radix_with(&s[start..stop], base, table);
     match parsed {
-        Some(_) => types::U16,
+        Some(_) => Typed {
+            ty: types::U16,
+            state,
+        },
         None => {
-            walk.report(literal_error(s, at));
-            types::U16
+            let next = walk::report(errors, state, literal_error(s, at));
+            Typed {
+                ty: types::U16,
+                state: next,
+            }
         }
     }
 }
 
 // `&e`
-fn pointer_take(ty: u32, walk: &mut Walk<'_>) -> u32
-    requires one_type { OneType walk.old.rows.now walk.old.state.rows ty }
-    requires indexed { Indexed walk.old.rows.now walk.old.state.rows walk.old.index.now }
-    ensures effect { Makes (Pointer ty)
-        walk.old.rows.now walk.old.index.now walk.old.state
-        walk.new.rows.now walk.new.index.now (typed result walk.new.state) }
-    ensures loans { OnlyRows walk.old walk.new }
+fn pointer_take(
+    ty: u32,
+    rows: &mut [u32],
+    index: &mut [u16; row_index::LENGTH],
+    state: State,
+) -> Typed
+    requires one_type { OneType rows.old state.rows ty }
+    requires indexed { Indexed rows.old state.rows index.old }
+    ensures { Makes (Pointer ty) rows.old index.old state rows.new index.new result }
 {
-    walk.make(Row::Pointer(ty))
+    walk::make(rows, index, state, Row::Pointer(ty))
 }
 
 // `*e`
-fn dereference(s: &[u8], at: usize, ty: u32, walk: &mut Walk<'_>) -> u32
-    requires { (fields_end at ≤ length s.now) × OneType walk.old.rows.now walk.old.state.rows ty }
-    ensures effect { UnaryKept kinds.pointer_dereference s.now at ty
-        walk.old.rows.now walk.old.errors.now walk.old.state
-        walk.new.errors.now (typed result walk.new.state) }
-    ensures loans { OnlyErrors walk.old walk.new }
+fn dereference(
+    s: &[u8],
+    at: usize,
+    ty: u32,
+    errors: &mut [u32],
+    rows: &[u32],
+    state: State,
+) -> Typed
+    requires { (fields_end at ≤ length s.now) × OneType rows.now state.rows ty }
+    ensures { UnaryKept kinds.pointer_dereference s.now at ty rows.now errors.old state errors.new result }
 {
-    let count = walk.state.rows;
-    let rows = &mut *walk.rows;
-    let holds = types::kind(rows, count, ty) == types::POINTER;
-    let part = part_of(rows, count, types::POINTER, ty);
-    report_unless(holds, s, at, NOT_A_POINTER, ty, 0, 0, walk);
-    part
+    let holds = types::kind(rows, state.rows, ty) == types::POINTER;
+    let next = report_unless(holds, s, at, NOT_A_POINTER, ty, 0, 0, errors, state);
+    Typed {
+        ty: part_of(rows, state.rows, types::POINTER, ty),
+        state: next,
+    }
 }
 
 // `e.name`
-fn field_access(s: &[u8], at: usize, ty: u32, walk: &mut Walk<'_>) -> u32
-    requires { (fields_end at ≤ length s.now) × OneType walk.old.rows.now walk.old.state.rows ty }
-    ensures effect { UnaryKept kinds.field_access s.now at ty
-        walk.old.rows.now walk.old.errors.now walk.old.state
-        walk.new.errors.now (typed result walk.new.state) }
-    ensures loans { OnlyErrors walk.old walk.new }
+fn field_access(
+    s: &[u8],
+    at: usize,
+    ty: u32,
+    errors: &mut [u32],
+    rows: &[u32],
+    state: State,
+) -> Typed
+    requires { (fields_end at ≤ length s.now) × OneType rows.now state.rows ty }
+    ensures { UnaryKept kinds.field_access s.now at ty rows.now errors.old state errors.new result }
 {
-    let count = walk.state.rows;
-    let rows = &mut *walk.rows;
     let name = word(s, at + FIELD_END);
-    let bare = types::desugar(rows, count, ty);
-    if types::kind(rows, count, bare) != types::STRUCT {
-        walk.report(convert::error_at(s, at, NO_FIELDS, ty, 0, 0));
-        return types::UNKNOWN;
+    let bare = types::desugar(rows, state.rows, ty);
+    if types::kind(rows, state.rows, bare) != types::STRUCT {
+        let error = convert::error_at(s, at, NO_FIELDS, ty, 0, 0);
+        let told = walk::report(errors, state, error);
+        return Typed {
+            ty: types::UNKNOWN,
+            state: told,
+        };
     }
-    let field = types::field_named(rows, count, bare, name);
-    report_unless(field != 0, s, at, NO_SUCH_FIELD, ty, name, 0, walk);
-    or_unknown(field)
+    let field = types::field_named(rows, state.rows, bare, name);
+    let next = report_unless(field != 0, s, at, NO_SUCH_FIELD, ty, name, 0, errors, state);
+    Typed {
+        ty: or_unknown(field),
+        state: next,
+    }
 }
 
 // `~e`
-fn bitwise_not(s: &[u8], at: usize, ty: u32, walk: &mut Walk<'_>) -> u32
-    requires { (fields_end at ≤ length s.now) × OneType walk.old.rows.now walk.old.state.rows ty }
-    ensures effect { UnaryKept kinds.bitwise_not s.now at ty
-        walk.old.rows.now walk.old.errors.now walk.old.state
-        walk.new.errors.now (typed result walk.new.state) }
-    ensures loans { OnlyErrors walk.old walk.new }
+fn bitwise_not(
+    s: &[u8],
+    at: usize,
+    ty: u32,
+    errors: &mut [u32],
+    rows: &[u32],
+    state: State,
+) -> Typed
+    requires { (fields_end at ≤ length s.now) × OneType rows.now state.rows ty }
+    ensures { UnaryKept kinds.bitwise_not s.now at ty rows.now errors.old state errors.new result }
 {
-    let count = walk.state.rows;
-    let rows = &mut *walk.rows;
-    let holds = relations::is_integral(types::kind(rows, count, ty));
-    report_unless(holds, s, at, NO_BITWISE_NOT, ty, 0, 0, walk);
-    ty
+    let holds = relations::is_integral(types::kind(rows, state.rows, ty));
+    let next = report_unless(holds, s, at, NO_BITWISE_NOT, ty, 0, 0, errors, state);
+    Typed { ty, state: next }
 }
 
 // `!e`
-fn boolean_not(s: &[u8], at: usize, ty: u32, walk: &mut Walk<'_>) -> u32
-    requires { (fields_end at ≤ length s.now) × OneType walk.old.rows.now walk.old.state.rows ty }
-    ensures effect { UnaryKept kinds.boolean_not s.now at ty
-        walk.old.rows.now walk.old.errors.now walk.old.state
-        walk.new.errors.now (typed result walk.new.state) }
-    ensures loans { OnlyErrors walk.old walk.new }
+fn boolean_not(
+    s: &[u8],
+    at: usize,
+    ty: u32,
+    errors: &mut [u32],
+    rows: &[u32],
+    state: State,
+) -> Typed
+    requires { (fields_end at ≤ length s.now) × OneType rows.now state.rows ty }
+    ensures { UnaryKept kinds.boolean_not s.now at ty rows.now errors.old state errors.new result }
 {
-    let count = walk.state.rows;
-    let rows = &mut *walk.rows;
-    let holds = types::kind(rows, count, ty) == types::BOOL;
-    report_unless(holds, s, at, NO_BOOLEAN_NOT, ty, 0, 0, walk);
-    ty
+    let holds = types::kind(rows, state.rows, ty) == types::BOOL;
+    let next = report_unless(holds, s, at, NO_BOOLEAN_NOT, ty, 0, 0, errors, state);
+    Typed { ty, state: next }
 }
 
 // An operator on an operand of the type row `ty`. `&e` makes the row of a pointer; the others make none.
-pub fn unary(kind: u32, s: &[u8], at: usize, ty: u32, walk: &mut Walk<'_>) -> u32
-    requires at_in_bounds { (fields_end at ≤ length s.now) × OneType walk.old.rows.now walk.old.state.rows ty }
-    requires indexed { Indexed walk.old.rows.now walk.old.state.rows walk.old.index.now }
-    ensures effect { Unary kind s.now at ty
-        walk.old.rows.now walk.old.index.now walk.old.errors.now walk.old.state
-        walk.new.rows.now walk.new.index.now walk.new.errors.now (typed result walk.new.state) }
-    ensures loans { SameOutput walk.old walk.new }
+pub fn unary(
+    kind: u32,
+    s: &[u8],
+    at: usize,
+    ty: u32,
+    errors: &mut [u32],
+    rows: &mut [u32],
+    index: &mut [u16; row_index::LENGTH],
+    state: State,
+) -> Typed
+    requires at_in_bounds { (fields_end at ≤ length s.now) × OneType rows.old state.rows ty }
+    requires indexed { Indexed rows.old state.rows index.old }
+    ensures { Unary kind s.now at ty
+        rows.old index.old errors.old state
+        rows.new index.new errors.new result }
 {
     match kind {
-        POINTER_TAKE => pointer_take(ty, walk),
-        POINTER_DEREFERENCE => dereference(s, at, ty, walk),
-        FIELD_ACCESS => field_access(s, at, ty, walk),
-        BITWISE_NOT => bitwise_not(s, at, ty, walk),
-        _ => boolean_not(s, at, ty, walk),
+        POINTER_TAKE => pointer_take(ty, rows, index, state),
+        POINTER_DEREFERENCE => dereference(s, at, ty, errors, rows, state),
+        FIELD_ACCESS => field_access(s, at, ty, errors, rows, state),
+        BITWISE_NOT => bitwise_not(s, at, ty, errors, rows, state),
+        _ => boolean_not(s, at, ty, errors, rows, state),
     }
 }
 
 // `left[right]`; the right stands at `place`.
-fn index(s: &[u8], at: usize, left: u32, place: usize, right: u32, walk: &mut Walk<'_>) -> u32
+fn index(
+    s: &[u8],
+    at: usize,
+    left: u32,
+    place: usize,
+    right: u32,
+    errors: &mut [u32],
+    rows: &[u32],
+    state: State,
+) -> Typed
     requires { (fields_end at ≤ length s.now) × (head_end place ≤ length s.now)
-        × TwoTypes walk.old.rows.now walk.old.state.rows left right }
-    ensures effect { Binary kinds.index s.now at left place right
-        walk.old.rows.now walk.old.errors.now walk.old.state
-        walk.new.errors.now (typed result walk.new.state) }
-    ensures loans { OnlyErrors walk.old walk.new }
+        × TwoTypes rows.now state.rows left right }
+    ensures { Binary kinds.index s.now at left place right rows.now errors.old state errors.new result }
 {
-    let count = walk.state.rows;
-    let rows = &mut *walk.rows;
-    let holds = types::kind(rows, count, right) == types::U16;
-    let part = part_of(rows, count, types::ARRAY, left);
-    report_unless(holds, s, place, NOT_AN_INDEX, right, 0, 0, walk);
-    part
+    let holds = types::kind(rows, state.rows, right) == types::U16;
+    let next = report_unless(holds, s, place, NOT_AN_INDEX, right, 0, 0, errors, state);
+    Typed {
+        ty: part_of(rows, state.rows, types::ARRAY, left),
+        state: next,
+    }
 }
 
 // `left && right`
-fn boolean_and(s: &[u8], at: usize, left: u32, place: usize, right: u32, walk: &mut Walk<'_>) -> u32
+fn boolean_and(
+    s: &[u8],
+    at: usize,
+    left: u32,
+    place: usize,
+    right: u32,
+    errors: &mut [u32],
+    rows: &[u32],
+    state: State,
+) -> Typed
     requires { (fields_end at ≤ length s.now) × (head_end place ≤ length s.now)
-        × TwoTypes walk.old.rows.now walk.old.state.rows left right }
-    ensures effect { Binary kinds.boolean_and s.now at left place right
-        walk.old.rows.now walk.old.errors.now walk.old.state
-        walk.new.errors.now (typed result walk.new.state) }
-    ensures loans { OnlyErrors walk.old walk.new }
+        × TwoTypes rows.now state.rows left right }
+    ensures { Binary kinds.boolean_and s.now at left place right
+        rows.now errors.old state
+        errors.new result }
 {
-    let count = walk.state.rows;
-    let rows = &mut *walk.rows;
-    let left_is = types::kind(rows, count, left) == types::BOOL;
-    let right_is = types::kind(rows, count, right) == types::BOOL;
-    report_unless(left_is, s, at, LEFT_NOT_BOOLEAN, left, 0, 0, walk);
-    report_unless(right_is, s, at, RIGHT_NOT_BOOLEAN, right, 0, 0, walk);
-    left
+    let left_is = types::kind(rows, state.rows, left) == types::BOOL;
+    let right_is = types::kind(rows, state.rows, right) == types::BOOL;
+    let first = LEFT_NOT_BOOLEAN;
+    let next = report_unless(left_is, s, at, first, left, 0, 0, errors, state);
+    let second = RIGHT_NOT_BOOLEAN;
+    let last = report_unless(right_is, s, at, second, right, 0, 0, errors, next);
+    Typed {
+        ty: left,
+        state: last,
+    }
 }
 
 // Whether arithmetic is defined on two desugared types: equal integers, or pointer then integer.
@@ -293,20 +348,27 @@ fn computes(rows: &[u32], count: u32, left: u32, right: u32) -> bool
 }
 
 // Arithmetic: the left, desugared.
-fn arithmetic(s: &[u8], at: usize, operator: u32, left: u32, right: u32, walk: &mut Walk<'_>) -> u32
-    requires { (fields_end at ≤ length s.now) × TwoTypes walk.old.rows.now walk.old.state.rows left right }
-    ensures effect { Arithmetic s.now at operator left right
-        walk.old.rows.now walk.old.errors.now walk.old.state
-        walk.new.errors.now (typed result walk.new.state) }
-    ensures loans { OnlyErrors walk.old walk.new }
+fn arithmetic(
+    s: &[u8],
+    at: usize,
+    operator: u32,
+    left: u32,
+    right: u32,
+    errors: &mut [u32],
+    rows: &[u32],
+    state: State,
+) -> Typed
+    requires { (fields_end at ≤ length s.now) × TwoTypes rows.now state.rows left right }
+    ensures { Arithmetic s.now at operator left right
+        rows.now errors.old state
+        errors.new result }
 {
-    let count = walk.state.rows;
-    let rows = &mut *walk.rows;
-    let l = types::desugar(rows, count, left);
-    let r = types::desugar(rows, count, right);
-    let holds = computes(rows, count, l, r);
-    report_unless(holds, s, at, INCOMPATIBLE_OPERANDS, operator, l, r, walk);
-    l
+    let l = types::desugar(rows, state.rows, left);
+    let r = types::desugar(rows, state.rows, right);
+    let holds = computes(rows, state.rows, l, r);
+    let kind = INCOMPATIBLE_OPERANDS;
+    let next = report_unless(holds, s, at, kind, operator, l, r, errors, state);
+    Typed { ty: l, state: next }
 }
 
 // An operator on operands of the type rows `left` and `right`; the right stands at `place`.
@@ -317,41 +379,49 @@ pub fn binary(
     left: u32,
     place: usize,
     right: u32,
-    walk: &mut Walk<'_>,
-) -> u32
+    errors: &mut [u32],
+    rows: &[u32],
+    state: State,
+) -> Typed
     requires { (fields_end at ≤ length s.now) × (head_end place ≤ length s.now)
-        × TwoTypes walk.old.rows.now walk.old.state.rows left right }
-    ensures effect { Binary kind s.now at left place right
-        walk.old.rows.now walk.old.errors.now walk.old.state
-        walk.new.errors.now (typed result walk.new.state) }
-    ensures loans { OnlyErrors walk.old walk.new }
+        × TwoTypes rows.now state.rows left right }
+    ensures { Binary kind s.now at left place right
+        rows.now errors.old state
+        errors.new result }
 {
     match kind {
-        INDEX => index(s, at, left, place, right, walk),
-        BOOLEAN_AND => boolean_and(s, at, left, place, right, walk),
+        INDEX => index(s, at, left, place, right, errors, rows, state),
+        BOOLEAN_AND => boolean_and(s, at, left, place, right, errors, rows, state),
         ARITHMETIC_BIN_OP => {
             let operator = word(s, at + FIELD_END);
-            arithmetic(s, at, operator, left, right, walk)
+            arithmetic(s, at, operator, left, right, errors, rows, state)
         }
         _ => {
-            arithmetic(s, at, COMPARISON_OPERATOR, left, right, walk);
-            types::BOOL
+            let compared = arithmetic(s, at, COMPARISON_OPERATOR, left, right, errors, rows, state);
+            let next = compared.state;
+            Typed {
+                ty: types::BOOL,
+                state: next,
+            }
         }
     }
 }
 
 // `source as target`
-pub fn cast(s: &[u8], at: usize, source: u32, target: u32, walk: &mut Walk<'_>)
-    requires { (head_end at ≤ length s.now) × TwoTypes walk.old.rows.now walk.old.state.rows source target }
-    ensures effect { Cast s.now at source target
-        walk.old.rows.now walk.old.errors.now walk.old.state
-        walk.new.errors.now walk.new.state }
-    ensures loans { OnlyErrors walk.old walk.new }
+pub fn cast(
+    s: &[u8],
+    at: usize,
+    source: u32,
+    target: u32,
+    errors: &mut [u32],
+    rows: &[u32],
+    state: State,
+) -> State
+    requires { (head_end at ≤ length s.now) × TwoTypes rows.now state.rows source target }
+    ensures { Cast s.now at source target rows.now errors.old state errors.new result }
 {
-    let count = walk.state.rows;
-    let rows = &mut *walk.rows;
-    let holds = relations::is_castable_to(rows, count, source, target);
-    report_unless(holds, s, at, NOT_CASTABLE, source, target, 0, walk);
+    let holds = relations::is_castable_to(rows, state.rows, source, target);
+    report_unless(holds, s, at, NOT_CASTABLE, source, target, 0, errors, state)
 }
 
 // A value of the type row `source` for a place of the type row `target`, at the record at `at`.
@@ -360,16 +430,16 @@ pub fn check_types_are_assignable(
     at: usize,
     target: u32,
     source: u32,
-    walk: &mut Walk<'_>,
-)
-    requires { (head_end at ≤ length s.now) × TwoTypes walk.old.rows.now walk.old.state.rows target source }
-    ensures effect { CheckAssignable s.now at target source
-        walk.old.rows.now walk.old.errors.now walk.old.state
-        walk.new.errors.now walk.new.state }
-    ensures loans { OnlyErrors walk.old walk.new }
+    errors: &mut [u32],
+    rows: &[u32],
+    state: State,
+) -> State
+    requires { (head_end at ≤ length s.now) × TwoTypes rows.now state.rows target source }
+    ensures { CheckAssignable s.now at target source
+        rows.now errors.old state
+        errors.new result }
 {
-    let count = walk.state.rows;
-    let rows = &mut *walk.rows;
-    let holds = relations::types_are_assignable(rows, count, target, source);
-    report_unless(holds, s, at, NOT_ASSIGNABLE, target, source, 0, walk);
+    let holds = relations::types_are_assignable(rows, state.rows, target, source);
+    let kind = NOT_ASSIGNABLE;
+    report_unless(holds, s, at, kind, target, source, 0, errors, state)
 }

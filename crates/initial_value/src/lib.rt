@@ -11,7 +11,7 @@ ghost use Rattle.initial_value.specs.Post.{ValueChecked};
 
 use compound::type_check_compound_assignment;
 use expression::type_check_expression;
-use expression_rules::check_types_are_assignable;
+use expression_rules::walked::check_types_are_assignable;
 use names::BuiltIns;
 use node::Node;
 use record_bytes::{KIND, half};

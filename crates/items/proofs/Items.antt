@@ -5,7 +5,7 @@ use mathlib.Core.Bool.{true, false}
 use mathlib.Core.List.{List, [], ◌++◌}
 use native.Mathlib.Omega.{arith}
 use lib.ListN.{length}
-use Rattle.shape.specs.Shape.{due_in, an_item}
+use Rattle.shape.specs.Shape.{due_in, a_type, an_item}
 use Rattle.shape.specs.declared.Holds.TheVariants as holds
 use Rattle.shape.specs.declared.Holds.TheVariants.{Items}
 use Rattle.record_bytes.specs.Bytes.{Read, half_at, word_at}
@@ -79,6 +79,10 @@ module _ {s : List ℕ} {d at : ℕ} (fine : FineRecord s d at (length s) an_ite
     variable_room = let p = variable in declared_room p.room p.parts.type p.parts.fits
 
     module _ {start value stop : ℕ} (is-start : start ≡ at + 20) (is-value : value ≡ stop_at s (at + 20)) (is_stop : stop ≡ stop_at s at) where
+      -- Cited by nothing here now
+      pub declared_fine : FineRecord s (d - 1) start (length s) a_type
+      declared_fine = subst (λ (x : ℕ). FineRecord s (d - 1) x (length s) a_type) (sym is-start) variable.parts.type
+
       pub value_fine : FineList s (d - 1) value stop holds.InitialValue
       value_fine =
           subst (λ (x : ℕ). FineList s (d - 1) x stop holds.InitialValue) (sym is-value)

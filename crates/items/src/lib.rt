@@ -22,7 +22,7 @@ ghost use Rattle.items.specs.Post.{ItemNodeChecked, ItemNodesChecked};
 use clear_locals::{clear_parameters, clear_statement};
 use convert::{Pass, convert_node_type};
 use divergence::do_all_paths_diverge;
-use expression_rules::report_unless;
+use expression_rules::walked::report_unless;
 use fallible::kinds::PATHS_WITHOUT_RETURN;
 use initial_value::{Value, type_check_initial};
 use names::BuiltIns;

@@ -11,7 +11,7 @@ use Rattle.types.specs.declared.Row.{Row}
 use Rattle.types.proofs.Grow.{extends_refl, extends_trans}
 use Rattle.row_index.specs.Index.{Indexed}
 use Rattle.walk.specs.declared.State.{State}
-use Rattle.walk.specs.Typed.{Typed}
+use Rattle.walk.specs.declared.Typed.{Typed}
 use Rattle.walk.specs.Represents.{lent, Good}
 use Rattle.walk.specs.Post.{Made, Makes}
 use Rattle.walk.specs.Cells.{CellsMade, CellsOk}

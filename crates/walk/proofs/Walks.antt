@@ -17,7 +17,7 @@ use Rattle.meaning.specs.Context.{each}
 use Rattle.meaning.specs.Convert.{Slot}
 use Rattle.meaning.specs.Module.{slot_type}
 use Rattle.walk.specs.declared.State.{State}
-use Rattle.walk.specs.Typed.{Typed}
+use Rattle.walk.specs.declared.Typed.{Typed}
 use Rattle.walk.specs.Effect.{Store, store, Effect, nothing, ◌then◌, reporting, meeting, carrying, store_from, filling, Shown}
 use Rattle.walk.specs.Words.{slot_place, slot_end, slot_stored}
 use Rattle.walk.specs.Represents.{Lent, lent, Good, Grew, Frame, Shows, Spells, Does, Typing}

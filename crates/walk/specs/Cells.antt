@@ -5,7 +5,7 @@ use Rattle.types.specs.Post.{PartsOk, Sort}
 use Rattle.types.specs.declared.Row.{Row}
 use Rattle.row_index.specs.Index.{Indexed}
 use Rattle.walk.specs.declared.State.{State}
-use Rattle.walk.specs.Typed.{Typed}
+use Rattle.walk.specs.declared.Typed.{Typed}
 use Rattle.walk.specs.Post.{Makes}
 
 -- n cells were made before the list `rest`: `cell i rest` is the row of cell i

@@ -14,7 +14,7 @@ use Rattle.walk.specs.Effect.{Effect, meeting}
 use Rattle.meaning.specs.TypeError.{TypeError}
 use Rattle.walk.specs.Represents.{Lent, lent, Good, Grew, Frame, Told, Does, Typing}
 use Rattle.walk.specs.declared.State.{State}
-use Rattle.walk.specs.Typed.{Typed}
+use Rattle.walk.specs.declared.Typed.{Typed}
 
 -- What stands for a row that finds no room: Unknown for a type, no cells for a list
 abbrev pub substitute_for : Row → ℕ

@@ -22,6 +22,13 @@ pub struct State {
     pub full: bool,
 }
 
+// A row number, and the state after it was found.
+#[derive(Clone, Copy)]
+pub struct Typed {
+    pub ty: u32,
+    pub state: State,
+}
+
 // All that a walk writes: the output with its slots, the errors, the rows and their index, and how far they are used.
 #[derive(Drop)]
 pub struct Walk<'a> {
@@ -54,8 +61,57 @@ fn substitute(row: Row) -> u32
     }
 }
 
+// The number of a row, made if it is not there. Where it finds no room, nothing is changed but the state.
+pub fn make(rows: &mut [u32], index: &mut [u16; row_index::LENGTH], state: State, row: Row) -> Typed
+    requires table { Table rows.old state.rows × PartsOk rows.old state.rows row }
+    requires indexed { Indexed rows.old state.rows index.old }
+    ensures { Makes row rows.old index.old state rows.new index.new result }
+{
+    match types::intern(rows, index, state.rows, row) {
+        Some(made) => Typed {
+            ty: made.number,
+            state: State {
+                rows: made.count,
+                ..state
+            },
+        },
+        None => Typed {
+            ty: substitute(row),
+            state: State {
+                full: true,
+                ..state
+            },
+        },
+    }
+}
+
+// Stores a row number in the slot of the record at `at`.
+pub fn put_slot(output: &mut [u8], at: usize, ty: u32)
+    requires { slot_end at ≤ length output.old }
+    ensures { output.new ≡ slot_stored output.old at ty }
+{
+    let slot = at + HEAD_END;
+    output[slot] = (ty % 256) as u8;
+    output[slot + 1] = (ty / 256 % 256) as u8;
+    output[slot + 2] = (ty / 256 / 256 % 256) as u8;
+    output[slot + 3] = (ty / 256 / 256 / 256 % 256) as u8;
+}
+
+// Reports an error.
+pub fn report(errors: &mut [u32], state: State, error: fallible::Error) -> State
+    ensures { Reported errors.old state error errors.new result }
+{
+    let count = fallible::push_error(errors, state.errors, error);
+    State {
+        errors: count,
+        ..state
+    }
+}
+
+// The same steps on a walk.
+// The steps on what a walk holds.
 impl Walk<'_> {
-    // The number of a row, made if it is not there. Where it finds no room, nothing is changed but the state.
+    // The number of a row, as `make` gives it.
     pub fn make(&mut self, row: Row) -> u32
         requires table { Table self.old.rows.now self.old.state.rows × PartsOk self.old.rows.now self.old.state.rows row }
         requires indexed { Indexed self.old.rows.now self.old.state.rows self.old.index.now }
@@ -64,29 +120,18 @@ impl Walk<'_> {
             self.new.rows.now self.new.index.now (typed result self.new.state) }
         ensures loans { OnlyRows self.old self.new }
     {
-        match types::intern(self.rows, self.index, self.state.rows, row) {
-            Some(made) => {
-                self.state.rows = made.count;
-                made.number
-            }
-            None => {
-                self.state.full = true;
-                substitute(row)
-            }
-        }
+        let made = make(self.rows, self.index, self.state, row);
+        self.state = made.state;
+        made.ty
     }
 
-    // Stores a row number in the slot of the record at `at`.
+    // Stores a row number in a slot of the output.
     pub fn put_slot(&mut self, at: usize, ty: u32)
         requires { slot_end at ≤ length self.old.output.now }
         ensures effect { self.new.output.now ≡ slot_stored self.old.output.now at ty }
         ensures loans { OnlyOutput self.old self.new }
     {
-        let slot = at + HEAD_END;
-        self.output[slot] = (ty % 256) as u8;
-        self.output[slot + 1] = (ty / 256 % 256) as u8;
-        self.output[slot + 2] = (ty / 256 / 256 % 256) as u8;
-        self.output[slot + 3] = (ty / 256 / 256 / 256 % 256) as u8;
+        put_slot(self.output, at, ty);
     }
 
     // Reports an error.
@@ -94,7 +139,7 @@ impl Walk<'_> {
         ensures effect { Reported self.old.errors.now self.old.state error self.new.errors.now self.new.state }
         ensures loans { OnlyErrors self.old self.new }
     {
-        self.state.errors = fallible::push_error(self.errors, self.state.errors, error);
+        self.state = report(self.errors, self.state, error);
     }
 }
 

@@ -1,5 +1,4 @@
 use borrow.Author.Rules.{rules}
-use Rattle.walk.proofs.Loans.{errors_then}
 use Rattle.call_rules.proofs.Turns as turns
 use Rattle.call_rules.proofs.Chains as chains
 use Rattle.call_rules.proofs.check_arguments.Goals as goal
@@ -23,10 +22,10 @@ pub loop-place-smaller : goal.loop-place-smaller
 loop-place-smaller c = search chains.next_less
 
 pub loop-place-preserved : goal.loop-place-preserved
-loop-place-preserved c = (search turns.arguments_on, errors_then c.loop-place.invariant.1 c.report_unless.ensures.loans)
+loop-place-preserved c = search turns.arguments_on
 
-pub returns-else-cell-ne0-clause-effect : goal.returns-else-cell-ne0-clause-effect
-returns-else-cell-ne0-clause-effect c = search turns.arguments_none
+pub returns-else-cell-ne0 : goal.returns-else-cell-ne0
+returns-else-cell-ne0 c = search turns.arguments_none
 
-pub returns-after-loop-place-clause-effect : goal.returns-after-loop-place-clause-effect
-returns-after-loop-place-clause-effect c = search turns.arguments_done
+pub returns-after-loop-place : goal.returns-after-loop-place
+returns-after-loop-place c = search turns.arguments_done

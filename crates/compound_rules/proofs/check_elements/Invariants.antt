@@ -1,14 +1,10 @@
 -- A law for each exit and each turn of its loop.
 use Prim.Native.Nat.{◌-◌}
-use Rattle.walk.specs.Loans.{OnlyErrors}
 use Rattle.compound_rules.proofs.Elements as turns
 use Rattle.compound_rules.proofs.check_elements.Given as goal
 
 abbrev pub invariant-loop-place : goal.invariant-loop-place
-invariant-loop-place l =
-    turns.Elements l.s l.at l.from l.end l.element l.initial.walk.output.now l.initial.walk.rows.now l.initial.walk.errors.now l.initial.walk.state
-    l.place l.walk.output.now l.walk.rows.now l.walk.errors.now l.walk.state
-    × OnlyErrors l.initial.walk l.walk
+invariant-loop-place l = turns.Elements l.s l.at l.from l.end l.element l.output l.rows l.initial.errors l.initial.next l.place l.errors l.next
 
 abbrev pub decreases-loop-place : goal.decreases-loop-place
 decreases-loop-place l = l.end - l.place

@@ -2,8 +2,8 @@
 use Rattle.compound_rules.proofs.Fields as fields
 use Rattle.compound_rules.proofs.check_field.Goals as goal
 
-pub returns-then-field-eq0-clause-effect : goal.returns-then-field-eq0-clause-effect
-returns-then-field-eq0-clause-effect c = search fields.field_missing
+pub returns-then-field-eq0 : goal.returns-then-field-eq0
+returns-then-field-eq0 c = search fields.field_missing
 
-pub returns-clause-effect : goal.returns-clause-effect
-returns-clause-effect c = search fields.field_checked
+pub returns : goal.returns
+returns c = search fields.field_checked

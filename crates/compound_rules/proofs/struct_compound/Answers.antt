@@ -2,8 +2,8 @@
 use Rattle.compound_rules.proofs.Repeats as repeats
 use Rattle.compound_rules.proofs.struct_compound.Goals as goal
 
-pub returns-then-kind-ne-STRUCT-clause-effect : goal.returns-then-kind-ne-STRUCT-clause-effect
-returns-then-kind-ne-STRUCT-clause-effect c = search repeats.no_struct
+pub returns-then-kind-ne-STRUCT : goal.returns-then-kind-ne-STRUCT
+returns-then-kind-ne-STRUCT c = search repeats.no_struct
 
-pub returns-clause-effect : goal.returns-clause-effect
-returns-clause-effect c = search repeats.struct_filled
+pub returns : goal.returns
+returns c = search repeats.struct_filled

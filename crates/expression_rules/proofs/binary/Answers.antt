@@ -2,5 +2,5 @@
 use Rattle.expression_rules.proofs.Exits as exits
 use Rattle.expression_rules.proofs.binary.Goals as goal
 
-pub returns-in_default-clause-effect : goal.returns-in_default-clause-effect
-returns-in_default-clause-effect c = search exits.compared
+pub returns-in_default : goal.returns-in_default
+returns-in_default c = search exits.compared

@@ -2,5 +2,5 @@
 use Rattle.expression_rules.proofs.Exits as exits
 use Rattle.expression_rules.proofs.bitwise_not.Goals as goal
 
-pub returns-clause-effect : goal.returns-clause-effect
-returns-clause-effect c = search exits.bits_inverted
+pub returns : goal.returns
+returns c = search exits.bits_inverted

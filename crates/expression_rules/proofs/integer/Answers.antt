@@ -2,8 +2,8 @@
 use Rattle.expression_rules.proofs.Exits as exits
 use Rattle.expression_rules.proofs.integer.Goals as goal
 
-pub returns-in-Some-clause-effect : goal.returns-in-Some-clause-effect
-returns-in-Some-clause-effect c = search exits.literal_read
+pub returns-in-Some : goal.returns-in-Some
+returns-in-Some c = search exits.literal_read
 
-pub returns-in-None-clause-effect : goal.returns-in-None-clause-effect
-returns-in-None-clause-effect c = search exits.literal_none
+pub returns-in-None : goal.returns-in-None
+returns-in-None c = search exits.literal_none
