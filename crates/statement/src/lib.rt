@@ -12,6 +12,7 @@ ghost use Rattle.relations.specs.TypeRows.{OneType};
 ghost use Rattle.walk.specs.Words.{word_place};
 ghost use Rattle.walk.specs.Moments.{moment};
 ghost use Rattle.walk.specs.Loans.{SameLoans, OnlyErrors};
+ghost use Rattle.walk.specs.Typed.{typed};
 ghost use Rattle.convert.specs.Post.{Ready};
 ghost use Rattle.divergence.specs.InnerStatements.{InnerOf};
 ghost use Rattle.statement.specs.Post.{LocalDeclared, ReturnedNothing, ConditionChecked, NodeCheckedForAny};
@@ -21,7 +22,7 @@ use compound::type_check_compound_assignment;
 use convert::{Pass, convert_node_type, error_at};
 use divergence::inner_statements;
 use expression::type_check_expression;
-use expression_rules::{check_types_are_assignable, report_unless};
+use expression_rules::walked::{check_types_are_assignable, report_unless};
 use fallible::kinds::{LOCAL_REDEFINED, RETURN_NEEDS_VALUE};
 use initial_value::{Value, type_check_initial};
 use names::BuiltIns;
@@ -40,23 +41,26 @@ pub struct Function {
     pub returned: u32,
 }
 
-// Enters a local of the type row `ty`, unless there is one of that name already.
-fn declare_local(s: &[u8], at: usize, ty: u32, work: &mut [u32], walk: &mut Walk<'_>)
+// Enters a local of the type row `ty`, unless there is one of that name already. The row that its value is compared
+// with: `ty` either way.
+fn declare_local(s: &[u8], at: usize, ty: u32, work: &mut [u32], walk: &mut Walk<'_>) -> u32
     requires { (field_end at ≤ length s.now) × (word_place (word_at s.now (head_end at)) 2 < length work.old) }
     ensures effect { LocalDeclared s.now at ty
         work.old walk.old.errors.now walk.old.state
-        work.new walk.new.errors.now walk.new.state }
+        work.new walk.new.errors.now (typed result walk.new.state) }
     ensures loans { OnlyErrors walk.old walk.new }
 {
     let name = word(s, at + HEAD_END);
-    if 0 < word_of(work, name, LOCAL) {
+    let earlier = word_of(work, name, LOCAL);
+    if 0 < earlier {
         walk.report(error_at(s, at, LOCAL_REDEFINED, name, 0, 0));
-    } else {
-        set_word(work, name, LOCAL, ty);
+        return ty;
     }
+    set_word(work, name, LOCAL, ty);
+    ty
 }
 
-// A declaration: its type, the local, its value. A redefinition's value is compared with the new type too.
+// A declaration: its type, the local, its value.
 fn variable_declaration(
     s: &[u8],
     names: BuiltIns,
@@ -72,8 +76,8 @@ fn variable_declaration(
     let at = node.at + FIELD_END;
     let depth = node.depth - 1;
     let pass = Pass { names, fill: true };
-    let ty = convert_node_type(s, pass, work, Node { at, depth }, walk);
-    declare_local(s, node.at, ty, work, walk);
+    let declared = convert_node_type(s, pass, work, Node { at, depth }, walk);
+    let ty = declare_local(s, node.at, declared, work, walk);
     let value = Value {
         from: at + length_at(s, at),
         end: node.at + length_at(s, node.at),
