@@ -85,6 +85,6 @@ fn main(rt: HostRuntime) -> io::Result<()> {
         Ok(counts) => {
             print_accepted(&rt, &output[..n.min(loans::OUTPUT)], counts, &rows, &errors)
         }
-        Err(refusal) => print_refused(&rt, refusal),
+        Err(refusal) => print_refused(&rt, refusal.number(), refusal.place()),
     }
 }

@@ -127,7 +127,7 @@ fn put_verdict(lines: &mut Lines<impl Print>, verdict: Verdict) -> io::Result<()
     match verdict {
         None => Ok(()),
         Some(Ok(())) => lines.put_text(b"good\n"),
-        Some(Err(refusal)) => lines.put_refused(refusal),
+        Some(Err(refusal)) => lines.put_refused(refusal.number(), refusal.place()),
     }
 }
 

@@ -12,7 +12,7 @@ use Rattle.literal.specs.Literal.{from_str_radix, parsed_value}
 use Rattle.program_support.specs.Buffer.{Piece, a_text}
 use Rattle.program_support.specs.Lines.{Puts, PutsSome}
 use Rattle.program_support.specs.declared.print.Buffer.{Buffer}
-use Rattle.program_support.proofs.BufferLaws.{puts_none, puts_then, some_then, some_first}
+use Rattle.program_support.proofs.LineLaws.{puts_none, puts_then, some_then, some_first}
 use Rattle.literal_cases.specs.Numbers.{decimal, base_read}
 use Rattle.literal_cases.specs.Places.{index_of}
 use Rattle.std.specs.Prelude.{position, ◌==◌}

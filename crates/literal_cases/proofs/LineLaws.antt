@@ -13,7 +13,7 @@ use Rattle.literal.specs.Literal.{from_str_radix, parsed_value}
 use Rattle.program_support.specs.Buffer.{a_text, a_number}
 use Rattle.program_support.specs.Lines.{Puts, PutsSome}
 use Rattle.program_support.specs.declared.print.Buffer.{Buffer}
-use Rattle.program_support.proofs.BufferLaws.{puts_none, puts_then, some_none, some_then, some_first}
+use Rattle.program_support.proofs.LineLaws.{puts_none, puts_then, some_none, some_then, some_first}
 use Rattle.literal_cases.specs.Lines.{byte_is, byte_alone, bytes_alone, base_line, base_lines, answer_line}
 
 module _ {A : Type 0} {w : ℕ} where

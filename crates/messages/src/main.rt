@@ -46,7 +46,7 @@ fn print_accepted(
         &mut text,
     ) {
         Ok(length) => print_text(out, &text, length),
-        Err(refusal) => print_refused(out, refusal),
+        Err(refusal) => print_refused(out, refusal.number(), refusal.place()),
     }
 }
 
@@ -59,6 +59,6 @@ fn main(rt: HostRuntime) -> io::Result<()> {
     let n = read_full(&mut rt.stdin(), &mut input)?;
     match type_check_module(&input[..n], &mut output, &mut rows, &mut errors, &mut work) {
         Ok(counts) => print_accepted(&rt, &input[..n], counts, &rows, &errors),
-        Err(refusal) => print_refused(&rt, refusal),
+        Err(refusal) => print_refused(&rt, refusal.number(), refusal.place()),
     }
 }

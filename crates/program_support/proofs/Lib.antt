@@ -1,3 +1,5 @@
+pub mod SlotLaws
 pub mod BufferLaws
+pub mod LineLaws
 pub mod DigitLaws
 pub mod InputLaws

@@ -14,8 +14,12 @@ use Rattle.records.proofs.Laws.{errors_long}
 use Rattle.program_support.specs.Buffer.{Piece}
 use Rattle.program_support.specs.Lines.{Puts, PutsSome}
 use Rattle.program_support.specs.declared.print.Buffer.{Buffer}
-use Rattle.program_support.proofs.BufferLaws.{puts_none, puts_then, some_then, some_first}
+use Rattle.program_support.proofs.LineLaws.{puts_none, puts_then, some_then, some_first}
 use Rattle.report.specs.Lines.{error_line, error_lines}
+use Rattle.std.proofs.Common.{Result, Ok}
+use Rattle.refusal.specs.declared.Refusal.{Refusal}
+use Rattle.type_check.specs.declared.Counts.{Counts as Counted}
+use Rattle.type_check.specs.Post.{outcome_of}
 
 lines_more : (errors : List Error) (i : ℕ) (d : Error) → i < length errors → error_lines (take (suc i) errors) ≡ error_lines (take i errors) ++ error_line (get_or errors i d)
 unfolding error_lines
@@ -56,3 +60,8 @@ errors_there {input} {before} {after} {records} {records'} {counts} c =
     ap (λ (x : List Error). length x) c.filled ∙ length-append (errors_from words 0 counts.errors) (drop counts.errors records) in
     let m = errors_long words 0 counts.errors in
     omega (arith, l, m)
+
+pub errors_reported : {input : List ℕ} {before after : Buffers} {records records' : List Error} {answer : Result Counted Refusal} {counts : Counted}
+    → CheckedRecords input before after records records' (outcome_of answer) → answer ≡ Ok counts → counts.errors ≤ length records'
+errors_reported {input} {before} {after} {records} {records'} {answer} {counts} c e =
+    errors_there (subst (λ (a : Result Counted Refusal). CheckedRecords input before after records records' (outcome_of a)) e c)

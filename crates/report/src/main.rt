@@ -14,7 +14,16 @@ use program_support::loans;
 use program_support::loans::ERROR_COUNT;
 use program_support::print::{Lines, print_refused};
 use records::type_check_module_records;
+use refusal::Refusal;
 use std::io;
+use type_check::Counts;
+
+// The answer, and the list of error records that was lent for it.
+#[derive(Clone, Copy)]
+struct Report {
+    answer: Result<Counts, Refusal>,
+    errors: [Error; ERROR_COUNT],
+}
 
 // A list of records for the errors of a module.
 fn zero_records() -> [Error; ERROR_COUNT]
@@ -31,6 +40,24 @@ fn zero_records() -> [Error; ERROR_COUNT]
         place: 0,
     };
     [zero; ERROR_COUNT]
+}
+
+// Checks a module, and lends a list of records for its errors.
+fn report_module(
+    input: &[u8],
+    output: &mut [u8],
+    rows: &mut [u32],
+    words: &mut [u32],
+    work: &mut [u32],
+) -> Report
+    ensures { CheckedRecords input.now
+        (buffers_before output rows words work)
+        (buffers_after output rows words work)
+        (replicate 2000 zero_record) result.errors (outcome_of result.answer) }
+{
+    let mut errors = zero_records();
+    let answer = type_check_module_records(input, output, rows, words, &mut errors, work);
+    Report { answer, errors }
 }
 
 // Kind, file, line and column of an error.
@@ -78,18 +105,17 @@ fn main(rt: HostRuntime) -> io::Result<()> {
     let mut output = [0u8; loans::OUTPUT];
     let mut rows = [0u32; loans::ROWS];
     let mut words = [0u32; loans::ERRORS];
-    let mut errors = zero_records();
     let mut work = [0u32; loans::WORK];
     let n = read_full(&mut rt.stdin(), &mut input)?;
-    match type_check_module_records(
+    let Report { answer, errors } = report_module(
         &input[..n],
         &mut output,
         &mut rows,
         &mut words,
-        &mut errors,
         &mut work,
-    ) {
+    );
+    match answer {
         Ok(counts) => print_accepted(&rt, counts.rows, &errors[..counts.errors]),
-        Err(refusal) => print_refused(&rt, refusal),
+        Err(refusal) => print_refused(&rt, refusal.number(), refusal.place()),
     }
 }

@@ -47,7 +47,7 @@ fn shuffle_input(
     let n = read_full(stdin, &mut input)?;
     match reorder::shuffle(&input[..n], number, &mut output) {
         Ok(()) => out.write_all(&output[..n]),
-        Err(refusal) => print_refused(err, refusal),
+        Err(refusal) => print_refused(err, refusal.number(), refusal.place()),
     }
 }
 

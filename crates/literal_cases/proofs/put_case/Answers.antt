@@ -3,7 +3,7 @@ use Rattle.std.specs.Prelude.{None, Some}
 use Rattle.std.proofs.lemmas.Result.{on_ok_weaker, on_err_weaker}
 use Rattle.program_support.specs.Buffer.{Piece}
 use Rattle.program_support.specs.Lines.{Puts, PutsSome}
-use Rattle.program_support.proofs.BufferLaws.{some_none}
+use Rattle.program_support.proofs.LineLaws.{some_none}
 use Rattle.literal_cases.proofs.CaseLaws as cases
 use Rattle.literal_cases.proofs.put_case.Goals as goal
 

@@ -1,5 +1,6 @@
 use Rattle.std.proofs.lemmas.Result.{on_ok_weaker, on_err_weaker}
-use Rattle.program_support.proofs.BufferLaws.{on_err, puts_then, some_none, some_then}
+use Rattle.program_support.proofs.BufferLaws.{on_err}
+use Rattle.program_support.proofs.LineLaws.{puts_then, some_none, some_then}
 use Rattle.literal_cases.proofs.put_value.Goals as goal
 
 pub returns-in_err-put_text-clause-err : goal.returns-in_err-put_text-clause-err

@@ -1,6 +1,7 @@
 -- Five pieces, one after the other.
 use Rattle.std.proofs.lemmas.Result.{on_ok_weaker, on_err_weaker}
-use Rattle.program_support.proofs.BufferLaws.{on_err, puts_then, some_none, some_then}
+use Rattle.program_support.proofs.BufferLaws.{on_err}
+use Rattle.program_support.proofs.LineLaws.{puts_then, some_none, some_then}
 use Rattle.report.proofs.put_counts.Goals as goal
 
 pub returns-in_err-put_text-clause-err : goal.returns-in_err-put_text-clause-err

@@ -1,5 +1,6 @@
 use Rattle.std.proofs.lemmas.Result.{on_ok_weaker, on_err_weaker}
-use Rattle.program_support.proofs.BufferLaws.{on_err, puts_then, some_none, some_then, some_first}
+use Rattle.program_support.proofs.BufferLaws.{on_err}
+use Rattle.program_support.proofs.LineLaws.{puts_then, some_none, some_then, some_first}
 use Rattle.report.proofs.put_error.Goals as goal
 
 pub returns-in_err-put_word-clause-err : goal.returns-in_err-put_word-clause-err

@@ -1,4 +1,5 @@
-use Rattle.program_support.proofs.BufferLaws.{on_err, words_none, words_more, words_blank, words_word}
+use Rattle.program_support.proofs.BufferLaws.{on_err}
+use Rattle.program_support.proofs.LineLaws.{words_none, words_more, words_blank, words_word}
 use Rattle.program_support.proofs.print.Buffer.put_words.Goals as goal
 
 pub loop-word-init : goal.loop-word-init
