@@ -3,7 +3,9 @@
 // number and the place of the refusal, or 0 and 0; how many rows, errors and slots there are, and names whose working
 // words are cleared; then the module; the rows in any numbering from 1; the errors, and the row of each slot in byte
 // order, by that numbering. src/messages.rt has what comes of messages.
-ghost use Rattle.std.specs.Prelude.{◌<◌, ◌^◌};
+ghost use Rattle.std.specs.Prelude.{◌≡◌, ◌<◌, ◌^◌, IfSome, IfNone};
+ghost use Rattle.replay.specs.Words.{part_word};
+ghost use Rattle.replay.specs.Cases.{WholeCheck, IsCheckOf};
 
 use crate::expected::word_of;
 use fallible::ERROR_WIDTH;
@@ -20,7 +22,8 @@ pub(crate) const WORD: usize = 4;
 
 // A word of the case, as a length.
 pub(crate) fn size(case: &[u8], i: usize) -> usize
-    ensures { result < 2 ^ 32 }
+    ensures is { result ≡ part_word case.now i }
+    ensures small { result < 2 ^ 32 }
 {
     word_of(case, i) as usize
 }
@@ -55,7 +58,10 @@ pub(crate) struct Check<'a> {
 }
 
 // The case by its parts, if it is whole.
-pub(crate) fn read_check<'a>(case: &'a [u8]) -> Option<Check<'a>> {
+pub(crate) fn read_check<'a>(case: &'a [u8]) -> Option<Check<'a>>
+    ensures some { IfSome result (λ check. IsCheckOf case.now check) }
+    ensures none { IfNone result (¬ (WholeCheck case.now)) }
+{
     let (head, rest) = case.split_at_checked(HEAD)?;
     let lent = Lent {
         output: size(head, 3),

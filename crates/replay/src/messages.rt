@@ -2,6 +2,9 @@
 // the same of errors, the bytes of the built-in text, the working words and the bytes of text that are lent; the number
 // of the refusal, or 0; its place, or the length of the text; the bytes of the text, 0 if there is none. Then come the
 // module, the rows, the errors, the built-in text and the text.
+ghost use Rattle.std.specs.Prelude.{IfSome, IfNone};
+ghost use Rattle.replay.specs.Cases.{WholeRequest, IsRequestOf};
+
 use crate::case::{HEAD, WORD, size};
 use crate::expected::word_of;
 use crate::judge::Verdict;
@@ -25,7 +28,10 @@ struct Request<'a> {
 }
 
 // The case by its parts, if it is whole.
-fn read_request<'a>(case: &'a [u8]) -> Option<Request<'a>> {
+fn read_request<'a>(case: &'a [u8]) -> Option<Request<'a>>
+    ensures some { IfSome result (λ request. IsRequestOf case.now request) }
+    ensures none { IfNone result (¬ (WholeRequest case.now)) }
+{
     let (head, rest) = case.split_at_checked(HEAD)?;
     let (module, rest) = rest.split_at_checked(size(head, 2))?;
     let (rows, rest) = rest.split_at_checked(WORD * size(head, 3))?;

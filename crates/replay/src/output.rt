@@ -1,9 +1,16 @@
 // The output of the checker and the input: they differ in the slots alone, which hold the rows of the case.
-ghost use Rattle.std.specs.Prelude.{◌≡◌, length};
+ghost use Rattle.std.specs.Prelude.{◌≡◌, ◌≤◌, length};
 
 use crate::expected::{number_of, word_of};
 use program_support::slots::{next_record, slot_place};
 use record_bytes::{FIELD, word};
+
+// How many slots a record has: 1 or 0.
+fn slot_count(input: &[u8], at: usize) -> usize
+    ensures { result ≤ 1 }
+{
+    usize::from(slot_place(input, at).is_some())
+}
 
 // Whether a record, up to its first child, is as in the input but for its slot, which holds this row.
 fn record_matches(input: &[u8], output: &[u8], row: u32) -> bool
@@ -36,9 +43,7 @@ pub(crate) fn output_matches(
         if !record_matches(&input[at..next], &output[at..next], row) {
             return false;
         }
-        if slot_place(input, at).is_some() {
-            i += 1;
-        }
+        i += slot_count(input, at);
         at = next;
     }
     i == expected.len() / FIELD

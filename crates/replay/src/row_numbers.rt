@@ -24,10 +24,10 @@ fn translated(expected: &[u8], i: u32, numbers: &[u32]) -> [u32; ROW_WIDTH] {
     }
 }
 
-// The number from 1 of a row among the checker's.
+// The number from 1 of a row among the checker's. Most rows differ in their first words.
 fn find_row(rows: &[u32], count: u32, row: &[u32]) -> Option<u32> {
     for (n, words) in (1..=count).zip(rows.chunks_exact(ROW_WIDTH)) {
-        if words == row {
+        if words.iter().eq(row) {
             return Some(n);
         }
     }
