@@ -1,5 +1,5 @@
 -- The texts of operators: one byte, or two that are the same. Assumes nothing.
-use Prim.Native.Nat.{ℕ, ◌+◌, ◌-◌, ◌≤◌, ◌<◌}
+use Prim.Native.Nat.{ℕ, suc, ◌+◌, ◌-◌, ◌≤◌, ◌<◌}
 use native.Mathlib.Omega.{arith}
 use native.Mathlib.Decide.{dec_le}
 use mathlib.Core.Path.{◌≡◌, refl, sym, ap, ◌∙◌, subst}
@@ -7,15 +7,13 @@ use mathlib.Core.Bool.{Bool, true, cond}
 use mathlib.Core.List.{List, [], ◌∷◌}
 use borrow.Author.Tests.{lt-ltb, le-ltb}
 use lib.Dec.{ltb}
-use lib.ListN.{length, get_or, replicate, take, drop, length-drop}
-use lib.Seq.{length-take-le}
-use borrow.Rule.Slice.PartMut.{put_mid}
+use lib.ListN.{length, get_or, set}
+use lib.Seq.{sets, set-set}
 use Rattle.literal.proofs.Digit.{passes_below, passed}
 use Rattle.names.specs.Names.{same_bytes}
 use Rattle.names.proofs.NameLaws.{same_true}
 use Rattle.text.specs.Text.{ascii}
-use Rattle.text.specs.Written.{Fits, Written}
-use Rattle.text.proofs.Writing.{copied}
+use Rattle.text.specs.Written.{Written}
 use Rattle.descriptions.specs.Descriptions.{operator_text, IsOperator}
 
 -- The byte of each
@@ -56,7 +54,7 @@ module _ (operator : ℕ) (is : IsOperator operator) where
   length_two h = sym (ap length (two h))
 
   -- One or two
-  lengths : (1 ≤ length (operator_text operator)) × (length (operator_text operator) ≤ 2)
+  pub lengths : (1 ≤ length (operator_text operator)) × (length (operator_text operator) ≤ 2)
   lengths =
       elim (dec_le 7 operator) [
         | yes h ↦ let l = length_two h in (omega arith, omega arith)
@@ -66,24 +64,26 @@ module _ (operator : ℕ) (is : IsOperator operator) where
   pub at_most_two : length (operator_text operator) ≤ 2
   at_most_two = lengths.1
 
-  -- As many times its byte as it is long
-  repeated : operator_text operator ≡ replicate (length (operator_text operator)) (get_or symbols operator 0)
-  repeated =
-      elim (dec_le 7 operator) [
-        | yes h ↦ let l = length_two h in rw (← l) (two h)
-        | no h ↦ let l = length_one (omega arith) in rw (← l) (one (omega arith))
-      ]
+  -- Its byte at the first place and at the last
+  pub written : (text : List ℕ) (at long last : ℕ) → long ≡ length (operator_text operator) → last + 1 ≡ at + long
+      → Written (operator_text operator) text (set (set text at (get_or symbols operator 0)) last (get_or symbols operator 0)) at (at + long)
+  written text at long last is ends =
+      record { stored = elim (dec_le 7 operator) [ yes h ↦ both h | no h ↦ same (omega arith) ]; next = omega arith }
+    where
+      symbol : ℕ
+      symbol = get_or symbols operator 0
 
-  -- A part that is as long, filled with its byte
-  pub written : (text : List ℕ) (at : ℕ) → Fits (operator_text operator) text at → (long : ℕ) → long ≡ length (operator_text operator) → (filled : List ℕ)
-      → filled ≡ replicate (length (take (at + long - at) (drop at text))) (get_or symbols operator 0)
-      → Written (operator_text operator) text (put_mid at (at + long - at) text filled) at (at + long)
-  written text at fits long long-is filled filled-is =
-      let same : at + long - at ≡ length (operator_text operator) = omega arith in
-      let left : length (drop at text) ≡ length text - at = length-drop at text in
-      let part : length (take (at + long - at) (drop at text)) ≡ length (operator_text operator) = length-take-le (at + long - at) (drop at text) (omega (arith, fits.room)) ∙ same in
-      let is : filled ≡ operator_text operator = filled-is ∙ ap (λ (n : ℕ). replicate n (get_or symbols operator 0)) part ∙ sym repeated in
-      record {
-        stored = ap (put_mid at (at + long - at) text) is ∙ copied (operator_text operator) text at (at + long - at) (omega arith) fits.room;
-        next = omega arith;
-      }
+      stored_at : ℕ → List ℕ
+      stored_at n = set (set text at symbol) n symbol
+
+      both : 7 ≤ operator → stored_at last ≡ sets text at (operator_text operator)
+      both h =
+          let l = length_two h in
+          let e : last ≡ suc at = omega arith in
+          ap stored_at e ∙ ap (sets text at) (sym (two h))
+
+      same : operator < 7 → stored_at last ≡ sets text at (operator_text operator)
+      same h =
+          let l = length_one h in
+          let e : last ≡ at = omega arith in
+          ap stored_at e ∙ set-set text at symbol symbol ∙ ap (sets text at) (sym (one h))

@@ -8,8 +8,6 @@ ghost use Rattle.rows.specs.Search.{Decides};
 ghost use Rattle.descriptions.specs.Descriptions.{piece_of, word_of, operator_text, IsOperator};
 ghost use Rattle.descriptions.specs.Descriptions.{all_lines, LineStands};
 
-use std::ops::Range;
-
 // What a byte of a description stands for: itself, or what is printed in its place.
 #[derive(Clone, Copy, Debug, PartialEq, Eq)]
 pub enum Piece {
@@ -31,14 +29,19 @@ const THIRD_OPERAND: usize = 6;
 
 const LITERAL_PLACE: usize = 7;
 
-// What a byte of a description stands for.
+// What a byte of a description stands for. An arm for each letter: by one table the code then finds both the piece and what
+// its caller does with it, while with `|` it tries the letters in turn at each byte of a line.
 pub fn piece_of(byte: u8) -> Piece
     ensures { result ≡ piece_of byte }
 {
     match byte {
-        b'N' | b'M' => Piece::Name,
-        b'T' | b'U' | b'V' => Piece::Row,
-        b'P' | b'Q' => Piece::Number,
+        b'N' => Piece::Name,
+        b'M' => Piece::Name,
+        b'T' => Piece::Row,
+        b'U' => Piece::Row,
+        b'V' => Piece::Row,
+        b'P' => Piece::Number,
+        b'Q' => Piece::Number,
         b'O' => Piece::Operator,
         b'B' => Piece::BuiltIn,
         b'L' => Piece::Literal,
@@ -82,13 +85,18 @@ pub fn operator_length(operator: u32) -> u32
 }
 
 // Writes an operator, and returns the place behind it.
+#[tactic(auto, using(crate::proofs::Operator::lengths))]
 pub fn put_operator(text: &mut [u8], at: usize, operator: u32) -> usize
     requires operator { IsOperator operator }
     requires fits { Fits (operator_text operator) text.old at }
     ensures { Written (operator_text operator) text.old text.new at result }
 {
     let end = at + (operator_length(operator) as usize);
-    text[at..end].fill(SYMBOLS[operator as usize]);
+    // an operator of one byte begins and ends with it
+    let last = end - 1;
+    let symbol = SYMBOLS[operator as usize];
+    text[at] = symbol;
+    text[last] = symbol;
     end
 }
 
@@ -133,6 +141,13 @@ const STARTS: [usize; KINDS + 1] = [
     728, 782, 855, 929, 962, 1016, 1089, 1139, 1199, 1250, 1293,
 ];
 
+// Where the line of a kind stands among the lines.
+#[derive(Clone, Copy, Debug, PartialEq, Eq)]
+pub struct Bounds {
+    pub start: usize,
+    pub end: usize,
+}
+
 // The lines of all kinds.
 pub fn all_lines() -> [u8; LENGTH]
     ensures { result ≡ all_lines }
@@ -142,12 +157,15 @@ pub fn all_lines() -> [u8; LENGTH]
 
 // Where the line of a kind stands; a kind that is not in the table has an empty one. No `Option`: `LineStands` promises an
 // empty line.
-pub fn line_bounds(kind: u32) -> Range<usize>
+pub fn line_bounds(kind: u32) -> Bounds
     ensures { LineStands kind result.start result.end }
 {
     let number = kind as usize;
     if KINDS <= number {
-        return 0..0;
+        return Bounds { start: 0, end: 0 };
     }
-    STARTS[number]..STARTS[number + 1]
+    Bounds {
+        start: STARTS[number],
+        end: STARTS[number + 1],
+    }
 }

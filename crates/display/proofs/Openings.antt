@@ -1,7 +1,7 @@
 -- The openings of texts, by kind: what has to fit, what is written, and how long it is.
 use Prim.Native.Nat.{ℕ, zero, suc, ◌+◌, ◌-◌, ◌≤◌, ◌<◌}
 use native.Mathlib.Omega.{arith}
-use mathlib.Core.Path.{◌≡◌, sym, ap, ◌∙◌}
+use mathlib.Core.Path.{◌≡◌, refl, sym, ap, ◌∙◌, subst}
 use mathlib.Core.List.{List, [], ◌++◌}
 use lib.ListN.{length, length-append}
 use Rattle.types.specs.Ty.{kind_of, size_of, name_of, unknown_kind, array_kind}
@@ -15,7 +15,7 @@ use Rattle.text.specs.Written.{Fits, Written}
 use Rattle.text.proofs.Writing.{first_fits, second_fits, both_written, fits_as, written_as}
 use Rattle.text.proofs.Decimals.{decimal_at_most_ten}
 use Rattle.display.specs.Display.{NameTexts}
-use Rattle.display.specs.Names.{Printable}
+use Rattle.display.specs.Names.{NameExists, Printable}
 use Rattle.display.specs.Parts.{opening, opening_of}
 
 -- Direct types and pointers have a fixed opening: the same as that of kind j, if they are of kind j
@@ -89,6 +89,12 @@ module _ (names : NameTexts) (s places w : List ℕ) (count n : ℕ) (printable 
 
   -- where it is the text o
   module _ (o : List ℕ) (o_is : opening_of names (unfolded w n) ≡ o) where
+    fits_so : (text : List ℕ) (at : ℕ) → Fits (opening_of names (unfolded w n)) text at → Fits o text at
+    fits_so text at fits = fits_as _ o o_is text at fits
+
+    written_so : (text text' : List ℕ) (at r : ℕ) → Written o text text' at r → Written (opening_of names (unfolded w n)) text text' at r
+    written_so text text' at r w' = written_as _ o o_is text text' at r w'
+
     long_so : (r : ℕ) → r ≡ capped (length o) → r ≡ capped (length (opening_of names (unfolded w n)))
     long_so r e = e ∙ ap (λ (t : List ℕ). capped (length t)) (sym o_is)
 
@@ -109,3 +115,36 @@ module _ (names : NameTexts) (s places w : List ℕ) (count n : ℕ) (printable 
   module _ (l : function_kind ≤ k) (h : k < alias_kind) where
     function_is : opening_of names (unfolded w n) ≡ ascii "fn("
     function_is = by_kind function_kind (omega arith)
+
+  -- Of a kind with a name. Cited by nothing here now
+  module _ (l : alias_kind ≤ k) (h : k ≤ field_kind) (name : ℕ) (name-is : name ≡ name_of (unfolded w n)) where
+    pub row_name_exists : NameExists s name
+    row_name_exists = subst (NameExists s) (sym name-is) (printable.exist.each n low high (omega arith) (omega arith))
+
+    module _ (bytes : List ℕ) (bytes-are : bytes ≡ names name) where
+      named_is : opening_of names (unfolded w n) ≡ opening k bytes 0
+      named_is = go (k - alias_kind) (omega arith) (omega arith)
+        where
+          at_kind_lem : (j : ℕ) → k ≡ j → opening j (names (name_of (unfolded w n))) (size_of (unfolded w n)) ≡ opening j (names (name_of (unfolded w n))) 0
+              → opening_of names (unfolded w n) ≡ opening k bytes 0
+          at_kind_lem j e p =
+              by_kind j e
+              ∙ p
+              ∙ ap (λ (x : List ℕ). opening j x 0) (sym (bytes-are ∙ ap names name-is))
+              ∙ sym (same_opening j k e bytes 0)
+
+          go : (i : ℕ) → i < 3 → k ≡ i + alias_kind → opening_of names (unfolded w n) ≡ opening k bytes 0
+          go zero b e = at_kind_lem alias_kind e refl
+          go (suc zero) b e = at_kind_lem distinct_kind e refl
+          go (suc (suc zero)) b e = at_kind_lem field_kind e refl
+          go (suc (suc (suc i))) b e = absurd (omega arith)
+
+      pub row_named_fits : (text : List ℕ) (at : ℕ) → Fits (opening_of names (unfolded w n)) text at → Fits (opening k bytes 0) text at
+      row_named_fits text at fits = fits_so _ named_is text at fits
+
+      pub row_named_written : (text text' : List ℕ) (at r : ℕ) → Written (opening k bytes 0) text text' at r
+          → Written (opening_of names (unfolded w n)) text text' at r
+      row_named_written text text' at r w' = written_so _ named_is text text' at r w'
+
+      pub row_named_long : (r : ℕ) → r ≡ capped (length (opening k bytes 0)) → r ≡ capped (length (opening_of names (unfolded w n)))
+      row_named_long r e = long_so _ named_is r e

@@ -70,6 +70,10 @@ module _ (s built_in places w : List ℕ) (count : ℕ) (work : List ℕ) (measu
   long_is : x ≡ length (row_text (name_text s built_in) w n)
   long_is = x-is ∙ exact_length s built_in places w count work measured n high fits.short
 
+  -- Cited by nothing here now
+  pub write_inside : from + x ≤ length text₀
+  write_inside = let l = long_is in omega (arith, fits.room)
+
   pub write_ends : (text : List ℕ) (row at : ℕ) → Left (name_text s built_in) w n text₀ from text row at → row ≡ 0
       → Written (row_text (name_text s built_in) w n) text₀ text from (from + x)
   write_ends text row at left e =

@@ -143,6 +143,21 @@ fn write_named(text: &mut [u8], at: usize, kind: u32, name: &[u8]) -> usize
     }
 }
 
+// Writes the middle of a row's text, and returns the place behind it. Each text is put in its own arm, where its length is
+// known: that takes no loop.
+fn write_middle(text: &mut [u8], at: usize, kind: u32, last: bool) -> usize
+    requires { Fits (middle kind last) text.old at }
+    ensures { Written (middle kind last) text.old text.new at result }
+{
+    match kind {
+        STRUCT => put(text, at, b" }"),
+        FUNCTION => put(text, at, b") -> "),
+        ALIAS => put(text, at, b")"),
+        _ if kind < FIELD || last => at,
+        _ => put(text, at, b", "),
+    }
+}
+
 impl<'a, 'b> Source<'a, 'b> {
     // The bytes of a name: a part of the module, or the built-in text.
     pub fn name_text(&self, name: u32) -> &'a [u8]
@@ -203,7 +218,7 @@ impl<'a, 'b> Source<'a, 'b> {
         }
     }
 
-    // Writes the opening of row n's text, and returns the place behind it.
+    // Writes the opening of row n's text, and returns the place behind it. Fixed texts are put as `write_middle` does.
     fn write_opening(&self, n: u32, text: &mut [u8], at: usize) -> usize
         requires printable { IsPrintable self.now × (1 ≤ n) × (n ≤ self.now.count) }
         requires fits { Fits (opening_of (texts_in self.now) (unfolded self.now.rows.now n)) text.old at }
@@ -211,7 +226,12 @@ impl<'a, 'b> Source<'a, 'b> {
     {
         let kind = types::kind(self.rows, self.count, n);
         match kind {
-            UNKNOWN..=POINTER => put(text, at, direct_text(kind)),
+            UNKNOWN => put(text, at, b"<unknown>"),
+            VOID => put(text, at, b"void"),
+            BOOL => put(text, at, b"bool"),
+            U16 => put(text, at, b"u16"),
+            I16 => put(text, at, b"i16"),
+            POINTER => put(text, at, b"*"),
             ARRAY => write_size(text, at, types::size(self.rows, self.count, n)),
             STRUCT => put(text, at, b"struct { "),
             FUNCTION => put(text, at, b"fn("),
@@ -235,7 +255,7 @@ impl<'a, 'b> Source<'a, 'b> {
         let second = second_part(self.rows, self.count, n);
         let front = self.write_opening(n, text, at);
         let end = front + (length_of(work, first) as usize);
-        let back = put(text, end, middle_text(kind, second == 0));
+        let back = write_middle(text, end, kind, second == 0);
         Inner {
             first,
             front,
