@@ -79,6 +79,10 @@ pub record ClearingBlock (s : List ℕ) (d from end : ℕ) (work₀ : List ℕ) 
   pub wide : length work ≡ length work₀
   pub whole : cleared_words 2 (declared_names (statements_at s d at end)) work ≡ cleared_words 2 (declared_names (statements_at s d from end)) work₀
 
+-- Cited by nothing here now
+pub block_start : {s : List ℕ} {d from end : ℕ} {work : List ℕ} → FineList s d from end Statements → ClearingBlock s d from end work from work
+block_start f = record { rest = f; wide = refl; whole = refl }
+
 module _ {s : List ℕ} {d from end : ℕ} {work₀ : List ℕ} {at : ℕ} {work : List ℕ} (c : ClearingBlock s d from end work₀ at work) where
   pub block_done : end ≤ at → work ≡ cleared_words 2 (declared_names (statements_at s d from end)) work₀
   unfolding declared_names cleared_words
@@ -122,6 +126,10 @@ pub record ClearingParameters (s : List ℕ) (d from end : ℕ) (work₀ : List 
   pub rest : FineList s d at end Parameters
   pub wide : length work ≡ length work₀
   pub whole : cleared_words 3 (parameter_names (parameters_at s d at end)) work ≡ cleared_words 3 (parameter_names (parameters_at s d from end)) work₀
+
+-- Cited by nothing here now
+pub parameters_start : {s : List ℕ} {d from end : ℕ} {work : List ℕ} → FineList s d from end Parameters → ClearingParameters s d from end work from work
+parameters_start f = record { rest = f; wide = refl; whole = refl }
 
 module _ {s : List ℕ} {d from end : ℕ} {work₀ : List ℕ} {at : ℕ} {work : List ℕ} (c : ClearingParameters s d from end work₀ at work) where
   -- no parameter is left

@@ -129,6 +129,11 @@ record_deep : (n : ℕ) (s : List ℕ) (d at end : ℕ) (due : Due) → d < 1 �
 unfolding record_at
 record_deep n s d at end due p = ap (λ (m : ℕ). record_at n s m at end due) (zeroed d p)
 
+-- an answer that is not Good is the answer of the whole. Cited by nothing here now
+pub stays : (r : Layout) → (r ≡ Good → ⊥) → (f : Unit {0} → Layout) → r ≡ and_then r f
+stays (Ok u) n f = absurd (n refl)
+stays (Err e) n f = refl
+
 -- What is left of a list has the layout of the whole: so far there is no fault
 pub record Rest (f : ℕ → ℕ → Due → Layout) (s : List ℕ) (end at : ℕ) (st : Holds) (whole : Layout) : Type 0 where
   pub left : ℕ

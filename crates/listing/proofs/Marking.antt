@@ -8,6 +8,9 @@ use borrow.Author.Tests.{eq-eqb, ne_eqb}
 use lib.Dec.{eqb}
 use lib.ListN.{length, set, length-set}
 use Rattle.shape.specs.Kinds as kinds
+use Rattle.shape.specs.Shape.{shape_of, due_in, Shaped}
+use Rattle.shape.specs.declared.Shape.{Shape}
+use Rattle.shape.specs.declared.Due.{Due}
 use Rattle.record_bytes.specs.Bytes.{word_at, half_at, head_size, field_size, Read}
 use Rattle.names.specs.Names.{stands, Next}
 use Rattle.layout.specs.Layout.{kind_at, start_at, stop_at}
@@ -132,7 +135,20 @@ module _ (s : List ℕ) (at kind : ℕ) (marks : List ℕ) (r : Read (half_at s 
   pub here_not : (kind ≡ kinds.integer → ⊥) → marks ≡ marked_here s at marks
   here_not e = sym (rw (ne_eqb (kind_at s at) kinds.integer (λ h. e (r.is ∙ h))) refl)
 
--- Where its children start, by the bytes before them
+-- Where its children start. Cited by nothing here now
+module _ (s : List ℕ) (at stop kind : ℕ) (r : Read (half_at s (at + 4)) 16 kind) (shape : Shape) (shaped : Shaped kind shape) (due : Due) (due-is : due ≡ due_in shape.holds) where
+  free_is : due.free ≡ holds_free_bytes (kind_at s at)
+  free_is = ap (λ (x : Due). x.free) due-is ∙ ap (λ (x : Shape). (due_in x.holds).free) shaped.is ∙ ap (λ (n : ℕ). (due_in (shape_of n).holds).free) r.is
+
+  pub children_none : due.free ≡ true → stop ≡ children_start s at stop
+  children_none e = ap (λ (b : Bool). cond b stop (start_at s at)) (sym e ∙ free_is)
+
+  pub children_some : due.free ≡ false → (n : ℕ) → (n ≡ (shape_of kind).fields) × (n ≤ 2) → at + 16 + 4 * n ≡ children_start s at stop
+  children_some e n n-is =
+      ap (λ (x : ℕ). at + 16 + 4 * x) (n-is.0 ∙ ap (λ (x : ℕ). (shape_of x).fields) r.is)
+      ∙ ap (λ (b : Bool). cond b stop (start_at s at)) (sym e ∙ free_is)
+
+-- The same by the bytes before the children
 module _ (s : List ℕ) (at stop kind before : ℕ) (r : Read (half_at s (at + 4)) 16 kind) (is : before ≡ bytes_before kind) where
   before_here : before ≡ bytes_before (kind_at s at)
   before_here = is ∙ ap bytes_before r.is

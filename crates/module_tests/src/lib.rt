@@ -10,6 +10,7 @@ use name_index::repeated_name;
 use refusal::Refusal;
 
 // Tests 1 to 4: why the module is turned back, whatever is lent.
+#[tactic(auto, using(crate::proofs::Refusals::refusals))]
 pub fn module_refusal(input: &[u8]) -> Result<(), Refusal>
     ensures { refusal_of result ≡ module_refusal input.now }
 {

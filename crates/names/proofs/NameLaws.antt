@@ -7,6 +7,7 @@ use lib.ListN.{length, take, drop, length-append, length-map}
 use Rattle.shape.proofs.ShapeLaws.{and_both}
 use lib.Dec.{eqb}
 use lib.Pointwise.{pointwise}
+use lib.Seq.{take_all}
 use native.Mathlib.Omega.{arith}
 use borrow.Author.Tests.{lt-leb, le-leb, eq-eqb, eqb-true}
 use Rattle.shape.specs.Shape.{pick}
@@ -45,9 +46,9 @@ module _ (s : List ℕ) (at end : ℕ) where
               inside = omega arith;
             }
 
-pub ends_at : (s : List ℕ) (len : ℕ) → len ≡ word_at s 16 → len < 2 ^ 32 → NamesEnd s (min (length s) (16 + len))
+pub ends_at : (s : List ℕ) (len r : ℕ) → len ≡ word_at s 16 → len < 2 ^ 32 → r ≡ min (length s) (16 + len) → NamesEnd s r
 unfolding names_end
-ends_at s len e q = record { is = rw (← e) (omega arith); inside = omega arith; small = omega arith }
+ends_at s len r e q p = record { is = rw (← e) (omega arith); inside = omega arith; small = omega arith }
 
 pub chain_none : (s : List ℕ) (n at end : ℕ) → stands s at end ≡ false → chain n s at end ≡ []
 unfolding chain
@@ -118,6 +119,18 @@ unfolding same_bytes
 same_refl [] = refl
 same_refl (x ∷ a) = simp (eq-eqb x x refl) (same_refl a)
 
+-- Cited by nothing here now
+pub same_length : (a b : List ℕ) → (length a ≡ length b → ⊥) → false ≡ same_bytes a b
+unfolding same_bytes
+same_length [] [] d = absurd (d refl)
+same_length [] (y ∷ b) d = refl
+same_length (x ∷ a) [] d = refl
+same_length (x ∷ a) (y ∷ b) d = go (eqb x y) (same_length a b (λ e. d (ap suc e)))
+  where
+    go : (t : Bool) → false ≡ same_bytes a b → false ≡ (t && same_bytes a b)
+    go true e = e
+    go false e = refl
+
 -- `==` of two texts
 pub same_pointwise : (a b : List ℕ) → pointwise nat_eq a b ≡ same_bytes a b
 unfolding same_bytes
@@ -125,6 +138,10 @@ same_pointwise [] [] = refl
 same_pointwise [] (y ∷ b) = refl
 same_pointwise (x ∷ a) [] = refl
 same_pointwise (x ∷ a) (y ∷ b) = ap (λ (r : Bool). eqb x y && r) (same_pointwise a b)
+
+-- and with a part of the second that is all of it
+pub same_part : (a b : List ℕ) (n : ℕ) → length b ≤ n → pointwise nat_eq a (take n b) ≡ same_bytes a b
+same_part a b n p = rw (take_all n b p) (same_pointwise a b)
 
 pub name_part : (s : List ℕ) (at stop : ℕ) → stop ≡ at + word_at s at → take (stop - (at + 16)) (drop (at + 16) s) ≡ name_bytes s at
 unfolding name_bytes

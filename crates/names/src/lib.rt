@@ -39,6 +39,7 @@ pub fn next_place(s: &[u8], at: usize, end: usize) -> Option<usize>
 }
 
 // Where the record of the names ends.
+#[tactic(auto, using(crate::proofs::NameLaws::ends_at))]
 pub fn names_end(s: &[u8]) -> usize
     requires { head_size + field_size ≤ length s.now }
     ensures { NamesEnd s.now result }
@@ -75,6 +76,7 @@ pub fn name_at(s: &[u8], at: usize, stop: usize) -> &[u8]
 }
 
 // Whether two texts are the same.
+#[tactic(auto, using(crate::proofs::NameLaws::same_pointwise, crate::proofs::NameLaws::same_part))]
 pub fn same_bytes(a: &[u8], b: &[u8]) -> bool
     ensures { result ≡ same_bytes a.now b.now }
 {

@@ -4,7 +4,7 @@ use mathlib.Core.Path.{◌≡◌, refl, sym, ◌∙◌, ap}
 use mathlib.Core.List.{List, [], ◌∷◌, ◌++◌, append-nil}
 use native.Mathlib.Omega.{arith}
 use native.Mathlib.Nat.{not-suc-le-zero, le_of_suc-le-suc}
-use lib.ListN.{length, get_or, set, take, drop, replicate, get_or-replicate}
+use lib.ListN.{length, get_or, set, take, drop, replicate, length-append, length-drop, get_or-replicate}
 use lib.Seq.{drop-length, get_or-take}
 use Rattle.fallible.specs.Errors.{error_width, error_of, error_word, error_at, errors_from}
 use Rattle.fallible.specs.declared.Error.{Error}
@@ -44,6 +44,13 @@ pub errors_long : (words : List ℕ) (number many : ℕ) → length (errors_from
 unfolding errors_from
 errors_long words number zero = refl
 errors_long words number (suc many) = ap suc (errors_long words (number + 1) many)
+
+-- Cited by nothing here now
+pub records_long : (words : List ℕ) (count : ℕ) (records : List Error) → count ≤ length records → length (records_from words count records) ≡ length records
+records_long words count records p =
+    let a = errors_long words 0 count in
+    let b = length-drop count records in
+    length-append (errors_from words 0 count) (drop count records) ∙ omega arith
 
 pub records_none : (words : List ℕ) (records : List Error) → records_from words 0 records ≡ records
 unfolding errors_from

@@ -1,5 +1,5 @@
 -- What the check of the words says of the records. Assumes nothing.
-use Prim.Native.Nat.{ℕ, ◌*◌, ◌≤◌, ◌<◌}
+use Prim.Native.Nat.{ℕ, ◌*◌, ◌/◌, ◌≤◌, ◌<◌}
 use mathlib.Core.Path.{◌≡◌, refl, sym, ◌∙◌, ap, subst}
 use mathlib.Core.Bool.{Bool, true, false, cond}
 use mathlib.Core.List.{List, [], ◌∷◌, ◌++◌, map}
@@ -21,10 +21,10 @@ use Rattle.type_check.specs.declared.Counts.{Counts as Counted}
 use Rattle.module_tests.specs.Refusal.{module_refusal}
 use Rattle.refusal.specs.declared.Refusal.{Refusal}
 use Rattle.std.specs.Prelude.{Result, Ok}
-use Rattle.type_check.specs.Post.{outcome_of, loan_refusal}
+use Rattle.type_check.specs.Post.{buffers, outcome_of, loan_refusal}
 use Rattle.type_check.proofs.Outcomes.{accepted_counts, refused_never}
 use Rattle.type_check.proofs.Promise.{Low as LowRefusal, low_module}
-use Rattle.records.specs.Records.{words_for, CheckedWords, records_from, zero_record, record_count, records_after, CheckedRecords}
+use Rattle.records.specs.Records.{too_few_words, words_for, CheckedWords, records_from, zero_record, record_count, records_after, CheckedRecords}
 use Rattle.records.proofs.Laws.{errors_long, records_none, records_all, errors_of_front, errors_of_zeros}
 
 -- ---- too few words
@@ -36,6 +36,11 @@ Low (accepted counts) = ⊥
 too_few_low : (t : Option (ℕ × ℕ)) → LowRefusal t → Low (outcome_after t (refused 5 0))
 too_few_low none p = omega arith
 too_few_low (some r) p = p
+
+-- ---- the words. Cited by nothing here now
+pub words_short : {input output rows words work : List ℕ} {answer : Outcome Counts} (records : ℕ) → length words / error_width < records → answer ≡ too_few_words input
+    → CheckedWords input records (buffers output rows words work) (buffers output rows words work) answer
+words_short records p e = record { short = λ q. (e, refl); checked = λ q. absurd (omega arith); past = refl }
 
 -- ---- accepted: no test refused
 accepted_rest : (t u : Option (ℕ × ℕ)) (counts all : Counts) → accepted counts ≡ outcome_after (or_next t u) (accepted all) → accepted counts ≡ outcome_after u (accepted all)

@@ -47,6 +47,7 @@ fn next_number(number: usize) -> usize
 }
 
 // Puts the places in an order that the number decides: each, from the last, is exchanged with one of those up to it.
+#[tactic(auto, using(crate::proofs::Exchanges::remainder_below))]
 fn permute(places: &mut [usize], seed: usize)
     ensures { places.new ≡ permuted_by seed places.old }
 {

@@ -1,10 +1,11 @@
 -- The table's rules, tested row by row.
 use Prim.Native.Nat.{ℕ, ◌+◌, ◌≤◌, ◌<◌}
 use mathlib.Core.Path.{◌≡◌, sym, ap, ◌∙◌, subst}
-use mathlib.Core.Bool.{Bool, false}
+use mathlib.Core.Bool.{Bool, false, not}
 use mathlib.Core.List.{List}
 use native.Mathlib.Omega.{arith}
 use mathlib.Core.Bool.{true≢false}
+use borrow.Author.Tests.{not-false}
 use lib.Dec.{eqb}
 use lib.Seq.{length-take-le, get_or-take}
 use Rattle.std.proofs.lemmas.Slice.Eq.{slice_eq-Decides}
@@ -21,7 +22,7 @@ use Rattle.types.specs.Table.{Words, row_at, size_word_at, build, unfolded, fixe
 use Rattle.types.specs.Post.{highest_part}
 use Rattle.types.proofs.Laws.{unfolded_row}
 use Rattle.types.proofs.Rows.{Rows, rows_add}
-use Rattle.types.proofs.Append.{none_like}
+use Rattle.types.proofs.Append.{highest_low, none_like}
 use Rattle.row_index.specs.Index.{index_length, with_row, RowsIndexed}
 use Rattle.row_index.proofs.Index.{rows_indexed_none, rows_indexed_more}
 
@@ -36,6 +37,14 @@ fixed_by w room b e =
           (sym (tested.1 (same_number_lists fixed_words (take fixed_length w) (sym (length-take-le fixed_length w room))
           (λ k h. sym (get_or-take fixed_length w k 0 h ∙ all k h)))) ∙ f);
     }
+
+-- Whether a row obeys the rules, by a test. Cited by nothing here now
+module _ (w : List ℕ) (m : ℕ) (r : Words) (e : r ≡ row_at w (m + 1)) (b : Bool) (d : Decides (RowOk w m r) b) where
+  pub row_rules : not b ≡ false → RowOk w m r
+  row_rules q = d.yes (not-false b q)
+
+  pub parts_low : not b ≡ false → (below : ℕ) → below ≡ highest_part r → below ≤ m
+  parts_low q below s = subst (λ (x : ℕ). x ≤ m) (sym s) (highest_low w m r (row_rules q))
 
 -- One more row that obeys the rules
 module _ (w : List ℕ) (m : ℕ) (r : Words) (e : r ≡ row_at w (m + 1)) (ok : RowOk w m r) where
